@@ -1,0 +1,5 @@
+pub mod Dots
+pub mod Places
+pub mod Kinds
+pub mod Models
+pub mod Orders

@@ -1,0 +1,7 @@
+// The laws of this crate's definitions, each the contract of a function that a caller may cite. The functions answer nothing.
+ghost use Rattle.causal.specs.Orders.{OrdersAreTotal};
+
+// Dots and places are totally ordered, and only equal ones stand level.
+pub fn orders_are_total()
+    ensures { λ _. ⌜ OrdersAreTotal ⌝ }
+{}

@@ -3,3 +3,7 @@ pub mod Places
 pub mod Kinds
 pub mod Models
 pub mod Orders
+pub mod Runs
+pub mod ContextLaws
+pub mod Contexts
+pub mod Merging

@@ -1,5 +1,7 @@
 // Dots, places, value kinds and causal contexts: the ground that every layer stands on.
 pub mod dots;
+pub mod runs;
+pub mod contexts;
 pub mod kinds;
 pub mod laws;
 pub mod limit;

@@ -7,3 +7,4 @@ pub mod Runs
 pub mod ContextLaws
 pub mod Contexts
 pub mod Merging
+pub mod Examples

@@ -4,7 +4,6 @@ ghost use mathlib.Core.Path.{_≡_};
 ghost use Prim.Native.Nat.{_≤_};
 ghost use lib.ListN.{length, take};
 ghost use Rattle.causal.specs.Runs.{canonical};
-
 use crate::runs::Run;
 
 pub mod questions;

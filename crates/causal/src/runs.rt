@@ -1,7 +1,6 @@
 // Runs: the dots of one replica from a first counter to a last one.
 ghost use mathlib.Core.Path.{_≡_};
 ghost use Rattle.causal.specs.Runs.{is-run, in-run};
-
 use crate::dots::Counter;
 use crate::dots::Dot;
 use crate::dots::LAST_COUNTER;
@@ -15,13 +14,20 @@ pub struct Run {
 }
 
 // Stands where there is no run.
-pub const NO_RUN: Run = Run { replica: 0, first: 0, last: 0 };
+pub const NO_RUN: Run = Run {
+    replica: 0,
+    first: 0,
+    last: 0,
+};
 
 impl Run {
     pub fn is_well_formed(self) -> bool
         ensures { λ r. ⌜ r ≡ is-run self ⌝ }
     {
-        is_replica_number(self.replica) && 1 <= self.first && self.first <= self.last && self.last <= LAST_COUNTER
+        is_replica_number(self.replica)
+            && 1 <= self.first
+            && self.first <= self.last
+            && self.last <= LAST_COUNTER
     }
 
     pub fn contains(self, dot: Dot) -> bool

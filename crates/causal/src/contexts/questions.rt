@@ -5,7 +5,6 @@ ghost use Rattle.causal.specs.Contexts.{runs-of};
 ghost use Rattle.causal.specs.Runs.{has, highest};
 ghost use Rattle.std.specs.Finite.{nth};
 ghost use lib.ListN.{length};
-
 use crate::contexts::Context;
 use crate::dots::Counter;
 use crate::dots::Dot;
@@ -16,7 +15,10 @@ impl Context {
     pub fn empty() -> Context
         ensures { λ r. ⌜ runs-of r ≡ [] ⌝ }
     {
-        Context { runs: [NO_RUN; 96], count: 0 }
+        Context {
+            runs: [NO_RUN; 96],
+            count: 0,
+        }
     }
 
     pub fn run_count(&self) -> usize
@@ -29,7 +31,11 @@ impl Context {
     pub fn run_at(&self, position: usize) -> Option<Run>
         ensures { λ r. ⌜ r ≡ nth (runs-of (now (self .entry))) position ⌝ }
     {
-        if position < self.count { Some(self.runs[position]) } else { None }
+        if position < self.count {
+            Some(self.runs[position])
+        } else {
+            None
+        }
     }
 
     pub fn contains(&self, dot: Dot) -> bool

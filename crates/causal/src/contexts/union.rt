@@ -8,7 +8,6 @@ ghost use Rattle.std.specs.Results.{Cases, errPart};
 ghost use lib.ListN.{length, take, drop};
 ghost use mathlib.Core.Bool.{true, false};
 ghost use mathlib.Core.Path.{_≡_};
-
 use crate::contexts::Context;
 use crate::contexts::ContextFault;
 use crate::contexts::MOST_RUNS;
@@ -124,7 +123,11 @@ fn extend_runs(runs: &mut [Run], count: usize, run: Run) -> usize
     if count > 0 {
         let last = runs[count - 1];
         if !ends_before(last, run) {
-            runs[count - 1] = Run { replica: last.replica, first: last.first, last: last.last.max(run.last) };
+            runs[count - 1] = Run {
+                replica: last.replica,
+                first: last.first,
+                last: last.last.max(run.last),
+            };
             return count;
         }
     }

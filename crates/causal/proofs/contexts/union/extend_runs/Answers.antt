@@ -14,6 +14,7 @@ pub returns : need.returns
 returns c = record {
   bound = omega arith;
   after = elim (c .if-count-gt0 .came) [
-      then-count-gt0·else-not-ends-before w ↦ stands-apart (c .args .runs .now) (c .args .count) (c .args .run) (w .if-count-gt0 .taken) (c .pre) (w .if-not-ends-before .ensures tt)
-    | else-count-gt0 w ↦ stands-first (c .args .runs .now) (c .args .count) (c .args .run) (w .if-count-gt0 .left) (c .pre) ];
+    | then-count-gt0·else-not-ends-before w ↦ stands-apart (c .args .runs .now) (c .args .count) (c .args .run) (w .if-count-gt0 .taken) (c .pre) (w .if-not-ends-before .ensures tt)
+    | else-count-gt0 w ↦ stands-first (c .args .runs .now) (c .args .count) (c .args .run) (w .if-count-gt0 .left) (c .pre)
+  ];
 }

@@ -15,6 +15,7 @@ loop-i-again c =
     let runs = c .args .runs .now in
     let x = getD runs i (run 0 0 0) in
     let a : i < length front = omega (arith, c .loop-i .inv .0) in
-    let b : i < length runs = omega (arith, c .pre .within) in
-    (length-set front i x ∙ c .loop-i .inv .0,
-     take-more-set front i x a ∙ ap (λ xs. xs ++ (x ∷ [])) (c .loop-i .inv .1) ∙ sym (take-more runs i (run 0 0 0) b))
+    let b : i < length runs = omega (arith, c .pre .within) in (
+      length-set front i x ∙ c .loop-i .inv .0,
+      take-more-set front i x a ∙ ap (λ xs. xs ++ (x ∷ [])) (c .loop-i .inv .1) ∙ sym (take-more runs i (run 0 0 0) b),
+    )

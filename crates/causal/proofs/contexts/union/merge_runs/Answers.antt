@@ -21,11 +21,14 @@ loop-i-less-then-left-is-next c =
 pub loop-i-again-then-left-is-next : need.loop-i-again-then-left-is-next
 loop-i-again-then-left-is-next c =
     let inv = c .loop-i .inv in
-    let l = index-left (c .args .xs .now) (c .args .ys .now) (c .loop-i .i) (c .loop-i .j) (c .if-left-is-next .ensures tt) in
-    (omega (arith, l), inv .1, omega (arith, inv .2, c .extend-runs-count .ensures .bound),
-     subst (λ zs. Merging zs (drop (c .loop-i .i + 1) (c .args .xs .now)) (drop (c .loop-i .j) (c .args .ys .now)) (c .args .xs .now) (c .args .ys .now))
-       (sym (c .extend-runs-count .ensures .after))
-       (step-left (take (c .loop-i .count) (c .loop-i .merged)) (c .args .xs .now) (c .args .ys .now) (c .loop-i .i) (c .loop-i .j) (inv .3) (c .if-left-is-next .ensures tt)))
+    let l = index-left (c .args .xs .now) (c .args .ys .now) (c .loop-i .i) (c .loop-i .j) (c .if-left-is-next .ensures tt) in (
+      omega (arith, l),
+      inv .1,
+      omega (arith, inv .2, c .extend-runs-count .ensures .bound),
+      subst (λ zs. Merging zs (drop (c .loop-i .i + 1) (c .args .xs .now)) (drop (c .loop-i .j) (c .args .ys .now)) (c .args .xs .now) (c .args .ys .now))
+          (sym (c .extend-runs-count .ensures .after))
+          (step-left (take (c .loop-i .count) (c .loop-i .merged)) (c .args .xs .now) (c .args .ys .now) (c .loop-i .i) (c .loop-i .j) (inv .3) (c .if-left-is-next .ensures tt)),
+    )
 
 -- where the right's run is taken, there is one
 right-left : (c : Else-left-is-next) → c .loop-i .j < length (c .args .ys .now)
@@ -42,11 +45,14 @@ loop-i-less c = omega (arith, right-left (need.at·loop-i-less c .Else-left-is-n
 pub loop-i-again : need.loop-i-again
 loop-i-again c =
     let inv = c .loop-i .inv in
-    let l = right-left (need.at·loop-i-again c .Else-left-is-next) in
-    (inv .0, omega (arith, l), omega (arith, inv .2, c .extend-runs-count-else-left-is-next .ensures .bound),
-     subst (λ zs. Merging zs (drop (c .loop-i .i) (c .args .xs .now)) (drop (c .loop-i .j + 1) (c .args .ys .now)) (c .args .xs .now) (c .args .ys .now))
-       (sym (c .extend-runs-count-else-left-is-next .ensures .after))
-       (step-right (take (c .loop-i .count) (c .loop-i .merged)) (c .args .xs .now) (c .args .ys .now) (c .loop-i .i) (c .loop-i .j) (inv .3) (c .if-left-is-next .ensures tt) l))
+    let l = right-left (need.at·loop-i-again c .Else-left-is-next) in (
+      inv .0,
+      omega (arith, l),
+      omega (arith, inv .2, c .extend-runs-count-else-left-is-next .ensures .bound),
+      subst (λ zs. Merging zs (drop (c .loop-i .i) (c .args .xs .now)) (drop (c .loop-i .j + 1) (c .args .ys .now)) (c .args .xs .now) (c .args .ys .now))
+          (sym (c .extend-runs-count-else-left-is-next .ensures .after))
+          (step-right (take (c .loop-i .count) (c .loop-i .merged)) (c .args .xs .now) (c .args .ys .now) (c .loop-i .i) (c .loop-i .j) (inv .3) (c .if-left-is-next .ensures tt) l),
+    )
 
 pub returns : need.returns
 returns c = record {

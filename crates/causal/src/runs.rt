@@ -1,6 +1,6 @@
 // Runs: the dots of one replica from a first counter to a last one.
 ghost use mathlib.Core.Path.{_≡_};
-ghost use Rattle.causal.specs.Runs.{is-run, in-run};
+ghost use Rattle.causal.specs.Runs.{is-run, in-run, before};
 use crate::dots::Counter;
 use crate::dots::Dot;
 use crate::dots::LAST_COUNTER;
@@ -34,5 +34,15 @@ impl Run {
         ensures { λ r. ⌜ r ≡ in-run self dot ⌝ }
     {
         self.replica == dot.replica && self.first <= dot.counter && dot.counter <= self.last
+    }
+
+    // Whether this run ends before the other begins, with a dot between them that is in neither.
+    pub fn ends_before(self, other: Run) -> bool
+        ensures { λ r. ⌜ r ≡ before self other ⌝ }
+    {
+        if self.replica != other.replica {
+            return self.replica < other.replica;
+        }
+        self.last < other.first && other.first - self.last > 1
     }
 }

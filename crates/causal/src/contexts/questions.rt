@@ -31,11 +31,7 @@ impl Context {
     pub fn run_at(&self, position: usize) -> Option<Run>
         ensures { λ r. ⌜ r ≡ nth (runs-of (now (self .entry))) position ⌝ }
     {
-        if position < self.count {
-            Some(self.runs[position])
-        } else {
-            None
-        }
+        run_in(&self.runs[0..self.count], position)
     }
 
     pub fn contains(&self, dot: Dot) -> bool
@@ -49,6 +45,16 @@ impl Context {
         ensures { λ r. ⌜ r ≡ highest replica (runs-of (now (self .entry))) ⌝ }
     {
         highest_among(&self.runs[0..self.count], replica)
+    }
+}
+
+fn run_in(runs: &[Run], position: usize) -> Option<Run>
+    ensures { λ r. ⌜ r ≡ nth (now (runs .entry)) position ⌝ }
+{
+    if position < runs.len() {
+        Some(runs[position])
+    } else {
+        None
     }
 }
 

@@ -2,7 +2,7 @@
 ghost use Prim.Native.Nat.{_+_, _<_, _≤_};
 ghost use Rattle.causal.specs.Contexts.{runs-of, too-many, union-fault, bounded-union, run-fault, with-run};
 ghost use Rattle.causal.specs.Merging.{starts-by, left-next, extended};
-ghost use Rattle.causal.specs.Runs.{canonical, before, union};
+ghost use Rattle.causal.specs.Runs.{canonical, union};
 ghost use Rattle.causal.specs.declared.contexts.ContextFault.the-variants.{TooManyRuns};
 ghost use Rattle.std.specs.Results.{Cases, errPart};
 ghost use lib.ListN.{length, take, drop};
@@ -107,13 +107,6 @@ fn starts_no_later(r: Run, s: Run) -> bool
     r.replica < s.replica || (r.replica == s.replica && r.first <= s.first)
 }
 
-// Whether a dot that is in neither lies between the end of r and the start of s.
-fn ends_before(r: Run, s: Run) -> bool
-    ensures { λ b. ⌜ b ≡ before r s ⌝ }
-{
-    r.replica < s.replica || (r.replica == s.replica && r.last < s.first && s.first - r.last > 1)
-}
-
 // Adds a run to the first `count`, which start no later: it stands apart, or stretches the last of them.
 fn extend_runs(runs: &mut [Run], count: usize, run: Run) -> usize
     requires { ⌜ count < length (now runs) ⌝ }
@@ -122,7 +115,7 @@ fn extend_runs(runs: &mut [Run], count: usize, run: Run) -> usize
 {
     if count > 0 {
         let last = runs[count - 1];
-        if !ends_before(last, run) {
+        if !last.ends_before(run) {
             runs[count - 1] = Run {
                 replica: last.replica,
                 first: last.first,

@@ -3,15 +3,16 @@ use mathlib.Core.Path.{_≡_, refl, ap, sym, _∙_}
 use mathlib.Core.List.{List, [], _∷_}
 use mathlib.Core.Bool.{Bool, true, false, cond, _||_}
 use mathlib.Core.Logic.{inl, inr}
-use Prim.Native.Nat.{ℕ, _+_, _≤_, _<_, max}
+use Prim.Native.Nat.{ℕ, zero, suc, _+_, _≤_, _<_, max}
 use native.Mathlib.Omega.{arith}
 use lib.Dec.{eqb}
 use lib.ListN.{length, drop, getD}
 use Rattle.std.proofs.shelf.Lists.{at-drop-more, at-drop-all}
 use Rattle.std.proofs.shelf.Tests.{cond-true, cond-false, eq-eqb, ne-eqb}
+use Rattle.std.specs.declared.option.Option.the-variants.{Some, None}
 use Rattle.causal.specs.declared.dots.Dot.{Dot}
 use Rattle.causal.specs.declared.runs.Run.{Run}
-use Rattle.causal.specs.Runs.{in-run, has, highest, run}
+use Rattle.causal.specs.Runs.{in-run, has, highest, last, run}
 
 pub has-here : (rs : List Run) (i : ℕ) (d : Dot) → i < length rs → true ≡ in-run (getD rs i (run 0 0 0)) d → has (drop i rs) d ≡ true
 has-here rs i d l h =
@@ -34,3 +35,14 @@ highest-other n rs i l e = at-drop-more (highest n) rs i (run 0 0 0) l ∙ cond-
 
 pub highest-none : (n : ℕ) (rs : List Run) (i : ℕ) → length rs ≤ i → highest n (drop i rs) ≡ 0
 highest-none n rs i l = at-drop-all (highest n) rs i l
+
+pub last-empty : (rs : List Run) → length rs ≡ 0 → None ≡ last rs
+last-empty [] e = refl
+last-empty (r ∷ rs) e = absurd (omega arith)
+
+pub last-there : (rs : List Run) (n : ℕ) → length rs ≡ n + 1 → Some (getD rs n (run 0 0 0)) ≡ last rs
+last-there [] n e = absurd (omega arith)
+last-there (r ∷ []) zero e = refl
+last-there (r ∷ []) (suc n) e = absurd (omega arith)
+last-there (r ∷ q ∷ rs) zero e = absurd (omega arith)
+last-there (r ∷ q ∷ rs) (suc n) e = last-there (q ∷ rs) n (omega arith)

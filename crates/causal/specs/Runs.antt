@@ -3,6 +3,8 @@ use mathlib.Core.List.{List, [], _∷_}
 use mathlib.Core.Bool.{Bool, true, false, cond, _&&_, _||_}
 use Prim.Native.Nat.{ℕ, _+_, max, min}
 use lib.Dec.{leb, ltb, eqb}
+use Rattle.std.specs.declared.option.Option.{Option}
+use Rattle.std.specs.declared.option.Option.the-variants.{Some, None}
 use Rattle.causal.specs.declared.dots.Dot.{Dot}
 use Rattle.causal.specs.declared.runs.Run.{Run}
 use Rattle.causal.specs.Dots.{is-replica, last-counter}
@@ -61,3 +63,9 @@ run r a b = record { replica = r; first = a; last = b }
 -- the run of one dot
 abbrev pub single : Dot → Run
 single d = run (d .replica) (d .counter) (d .counter)
+
+-- the last of a list, if there is one
+abbrev pub last : {X : Type 0} → List X → Option X
+last [] = None
+last (x ∷ []) = Some x
+last (x ∷ y ∷ ys) = last (y ∷ ys)

@@ -2,7 +2,7 @@
 ghost use mathlib.Core.List.{[]};
 ghost use mathlib.Core.Path.{_≡_};
 ghost use Rattle.causal.specs.Contexts.{runs-of};
-ghost use Rattle.causal.specs.Runs.{has, highest};
+ghost use Rattle.causal.specs.Runs.{has, highest, last};
 ghost use Rattle.std.specs.Finite.{nth};
 ghost use lib.ListN.{length};
 use crate::contexts::Context;
@@ -34,6 +34,13 @@ impl Context {
         run_in(&self.runs[0..self.count], position)
     }
 
+    // The last run; none where there is no run.
+    pub fn last_run(&self) -> Option<Run>
+        ensures { λ r. ⌜ r ≡ last (runs-of (now (self .entry))) ⌝ }
+    {
+        last_of(&self.runs[0..self.count])
+    }
+
     pub fn contains(&self, dot: Dot) -> bool
         ensures { λ r. ⌜ r ≡ has (runs-of (now (self .entry))) dot ⌝ }
     {
@@ -56,6 +63,15 @@ fn run_in(runs: &[Run], position: usize) -> Option<Run>
     } else {
         None
     }
+}
+
+fn last_of(runs: &[Run]) -> Option<Run>
+    ensures { λ r. ⌜ r ≡ last (now (runs .entry)) ⌝ }
+{
+    if runs.len() == 0 {
+        return None;
+    }
+    Some(runs[runs.len() - 1])
 }
 
 fn any_contains(runs: &[Run], dot: Dot) -> bool

@@ -1,0 +1,13 @@
+pub mod Turns
+pub mod Fills
+pub mod ReadLaws
+pub mod Pieces
+pub mod Placed
+pub mod Written
+pub mod Stocks
+pub mod Sent
+pub mod RingLaws
+pub mod RingCalls
+pub mod SlotSizes
+pub mod SlotLaws
+pub mod SlotCalls

@@ -1,0 +1,6 @@
+pub mod Parcels
+pub mod Layout
+pub mod Extents
+pub mod Rings
+pub mod Slotted
+pub mod Meanings

@@ -1,0 +1,4 @@
+pub mod Meets
+pub mod Keeps
+pub mod Joins
+pub mod Converges

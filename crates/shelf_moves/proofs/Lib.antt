@@ -2,3 +2,4 @@ pub mod FirstLaws
 pub mod MoveLaws
 pub mod OrderLaws
 pub mod BackLaws
+pub mod BackToEnd

@@ -47,3 +47,8 @@ pub record MovedOn (sound-from sound-to : Type 0) (z : Sizes) (from to : List (L
 abbrev pub append-and-copy-answer : Option Refusal → List ℕ → ℕ → Result ℕ Refusal
 append-and-copy-answer (Some r) parcel size = Err r
 append-and-copy-answer None parcel size = cond (leb (length parcel) size) (Ok (length parcel)) (Err (refused 12 (length parcel)))
+
+-- the first of some parcels fits `size` bytes of memory
+abbrev pub first-fits : ℕ → List (List ℕ) → Bool
+first-fits size [] = false
+first-fits size (p ∷ ps) = leb (length p) size

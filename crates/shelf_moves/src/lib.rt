@@ -6,7 +6,7 @@ ghost use lib.ListN.{length, take, drop};
 ghost use Rattle.std.specs.Finite.{nth};
 ghost use Rattle.std.specs.Results.{Cases};
 ghost use Rattle.shelves.specs.Parcels.{copy-memory, told, append-refusal, after-append};
-ghost use Rattle.shelf_moves.specs.Moves.{first-passes, MovedOn, append-and-copy-answer};
+ghost use Rattle.shelf_moves.specs.Moves.{first-passes, first-fits, MovedOn, append-and-copy-answer};
 ghost use Rattle.shelf_moves.specs.Laws.{OrderKept};
 use shelves::fault::ShelfFault;
 use shelves::shelf::Shelf;
@@ -85,4 +85,24 @@ pub fn order_is_kept() -> u8
     ensures { λ _. ⌜ OrderKept ⌝ }
 {
     0
+}
+
+// Puts the first parcel behind the others, through the memory, and says whether it fitted the memory: removing and appending keep the order of the others.
+pub fn send_to_back<S: Shelf>(shelf: &mut S, memory: &mut [u8]) -> bool
+    ensures sizes { λ _. ⌜ S·Shelf .sizes (now (shelf .exit)) ≡ S·Shelf .sizes (now (shelf .entry)) ⌝ }
+    ensures answer { λ r. ⌜ (S·Shelf .sound (now (shelf .entry)) → r ≡ first-fits (length (now (memory .entry))) (S·Shelf .parcels (now (shelf .entry)))) ⌝ }
+    ensures after { λ r. ⌜ (S·Shelf .sound (now (shelf .entry))
+        → S·Shelf .parcels (now (shelf .exit)) ≡ cond r (drop 1 (S·Shelf .parcels (now (shelf .entry))) ++ take 1 (S·Shelf .parcels (now (shelf .entry)))) (S·Shelf .parcels (now (shelf .entry)))) ⌝ }
+    ensures memory { λ _. ⌜ (S·Shelf .sound (now (shelf .entry)) → now (memory .exit) ≡ copy-memory (nth (S·Shelf .parcels (now (shelf .entry))) 0) (now (memory .entry))) ⌝ }
+    ensures spare { λ _. ⌜ (S·Shelf .sound (now (shelf .entry)) → S·Shelf .spare (now (shelf .exit)) ≡ S·Shelf .spare (now (shelf .entry))) ⌝ }
+    ensures stays { λ _. ⌜ (S·Shelf .sound (now (shelf .entry)) → S·Shelf .sound (now (shelf .exit))) ⌝ }
+{
+    let Ok(length) = shelf.copy(0, memory) else {
+        return false;
+    };
+    if length > memory.len() || shelf.remove(0).is_err() {
+        return false;
+    }
+    let all: &[u8] = memory;
+    shelf.append(&all[0..length]).is_ok()
 }

@@ -462,6 +462,7 @@ mod move_tests {
     use super::*;
     use shelf_moves::append_and_copy;
     use shelf_moves::move_parcels;
+    use shelf_moves::send_to_back;
     use shelves::ring::Ring;
     use shelves::ring::RingShelf;
     use shelves::slots::Slots;
@@ -529,6 +530,35 @@ mod move_tests {
             ),
             4,
         )
+    }
+
+    // The first of three parcels goes behind the others, on full shelves too.
+    #[test]
+    fn first_to_the_back() -> Result<(), Fail> {
+        let mut one = [0; 96];
+        let mut two = [0; 144];
+        let mut memory = [0; 24];
+        let mut ring = Ring::new(&mut one);
+        let mut slots = Slots::new(&mut two, 2);
+        let before = [
+            Step::Append(24, 1, (0, 0)),
+            Step::Append(48, 40, (0, 0)),
+            Step::Append(24, 130, (0, 0)),
+            Step::Append(24, 1, (13, 1)),
+        ];
+        let after = [
+            Step::Holds(0, 48, 40),
+            Step::Holds(1, 24, 130),
+            Step::Holds(2, 24, 1),
+            Step::Count(3),
+        ];
+        check_eq(first_wrong(&mut ring, &before), 4)?;
+        check_eq(first_wrong(&mut slots, &before), 4)?;
+        check(send_to_back(&mut ring, &mut memory))?;
+        check(send_to_back(&mut slots, &mut memory))?;
+        check(!send_to_back(&mut ring, &mut memory))?;
+        check_eq(first_wrong(&mut ring, &after), 4)?;
+        check_eq(first_wrong(&mut slots, &after), 4)
     }
 
     #[test]

@@ -25,7 +25,7 @@ use Rattle.stores.proofs.ItemOrder.{dot-equal, dot-itself, dot-turned, precede
 use Rattle.stores.proofs.Held.{lacks, absent-stands}
 use Rattle.stores.proofs.Stays.{all-placed, cond-out, some-none, merge-recodes, count-first, orderly-none, orderly-put, orderly-strike}
 
-cond-split : {X : Type 0} (b : Bool) (u v w : X) → cond b u v ≡ w → ((b ≡ true) × (u ≡ w)) ⊎ ((b ≡ false) × (v ≡ w))
+pub cond-split : {X : Type 0} (b : Bool) (u v w : X) → cond b u v ≡ w → ((b ≡ true) × (u ≡ w)) ⊎ ((b ≡ false) × (v ≡ w))
 cond-split true u v w e = inl (refl, e)
 cond-split false u v w e = inr (refl, e)
 

@@ -1,0 +1,11 @@
+pub mod Faults
+pub mod Holdings
+pub mod Limits
+pub mod Actions
+pub mod Edits
+pub mod Ships
+pub mod Arrivals
+pub mod Links
+pub mod Reads
+pub mod Examples
+pub mod Keeping

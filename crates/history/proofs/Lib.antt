@@ -1,0 +1,15 @@
+pub mod Members
+pub mod Books
+pub mod Histories
+pub mod Actions
+pub mod Deeds
+pub mod Invariants
+pub mod Simulation
+pub mod Followed
+pub mod Steps
+pub mod Edited
+pub mod Runs
+pub mod Meetings
+pub mod Entries
+pub mod Elsewhere
+pub mod Law

@@ -15,8 +15,7 @@ use Rattle.causal.specs.Places.{is-place}
 use Rattle.causal.specs.Kinds.{ValueKind}
 use Rattle.stores.specs.Puts.{fits-part}
 use Rattle.stores.proofs.Stays.{some-none}
-use Rattle.stores.proofs.Lookups.{some-same}
-use Rattle.stores.proofs.Lookups.{cond-split}
+use Rattle.stores.proofs.Lookups.{some-same, cond-split}
 use Rattle.records.specs.declared.fields.Fields.{Fields}
 use Rattle.records.specs.Faults.{bad-code}
 use Rattle.records.specs.Fields.{fields-of}

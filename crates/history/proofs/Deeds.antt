@@ -88,7 +88,7 @@ module _ (ks : List ValueKind) where
   plain-group : (d : Deed) → Ascends (d .puts) → Apart (d .puts) → ((x : Item) → x ∈ d .puts → among (x .dot) (d .strikes) ≡ false) → group-of d ≡ book-of ks (d .puts) (d .strikes)
   plain-group d up apart kept = λ i. record { items = plain-items (d .puts) (d .strikes) up apart kept i; runs = runs-for (dots-of (d .puts) ++ d .strikes) }
 
-  amended-ascends : (c : ℕ) (xs : List Item) → Ascends xs → Ascends (map (amended ks c) xs)
+  pub amended-ascends : (c : ℕ) (xs : List Item) → Ascends xs → Ascends (map (amended ks c) xs)
   amended-ascends c [] a = tt
   amended-ascends c (x ∷ xs) a = (each xs (a .0), amended-ascends c xs (a .1))
     where
@@ -96,7 +96,7 @@ module _ (ks : List ValueKind) where
       each [] p = tt
       each (y ∷ ys) p = (p .0, each ys (p .1))
 
-  amended-apart : (c : ℕ) (xs : List Item) → Apart xs → Apart (map (amended ks c) xs)
+  pub amended-apart : (c : ℕ) (xs : List Item) → Apart xs → Apart (map (amended ks c) xs)
   amended-apart c [] a = tt
   amended-apart c (x ∷ xs) a = (each xs (a .0), amended-apart c xs (a .1))
     where

@@ -13,3 +13,4 @@ pub mod Meetings
 pub mod Entries
 pub mod Elsewhere
 pub mod Law
+pub mod Soundness

@@ -5,3 +5,4 @@ pub mod History
 pub mod Law
 pub mod Examples
 pub mod ShutOut
+pub mod Sound

@@ -103,7 +103,9 @@ over-gaps z (forget r t) m = tells z (forget r t) m
 over-gaps z (read r part place numbers) m = tells z (read r part place numbers) m
 
 pub record LawShutsOut : Type 0 where
-  -- (a) is false of each of these
+  -- (a) holds where all goes as it should
+  pub honest-is-in : FollowsBy site (behaving honest site)
+  -- and is false of each of these
   pub joining-nothing-is-out : FollowsBy site (behaving joining-nothing site) → ⊥
   pub calling-all-old-is-out : FollowsBy site (behaving calling-all-old site) → ⊥
   pub shipping-whole-is-out : FollowsBy site (behaving shipping-whole site) → ⊥

@@ -15,11 +15,13 @@ use Rattle.groups.specs.Examples.{feeder}
 use Rattle.records.specs.Records.{is-entry-record, is-run-record, is-origin-record}
 use Rattle.calls.specs.Holdings.{Answer, refusal, wrote, arrived, absorbed, accepted, counted, Turn}
 use Rattle.history.specs.Sets.{_∈_}
-use Rattle.history.specs.Worlds.{Call, read, Bytewise, World, traced, opened}
+use Rattle.history.specs.Worlds as worlds
+use Rattle.history.specs.Worlds.{called, Call, read, Bytewise, World, traced, opened}
 use Rattle.history.specs.History.{Name, Edit, Edits, names, tale, told, blank}
 use Rattle.history.specs.Law.{compared, FollowsBy, CausalBy}
 use Rattle.history.specs.Examples.{site, one, two, action, edits, ships, delivers, name, pasts}
-use Rattle.history.specs.ShutOut.{Behaviour, behaving, joining-nothing, calling-all-old, shipping-whole, editing-by-the-first, refusing-all, over-gaps}
+use Rattle.history.specs.ShutOut.{Behaviour, behaving, honest, joining-nothing, calling-all-old, shipping-whole, editing-by-the-first, refusing-all, over-gaps}
+use Rattle.history.proofs.Law.{runs-keep-history}
 use Rattle.history.proofs.laws.law_shuts_out.Needs as need
 
 -- the number in the last answer
@@ -144,8 +146,28 @@ gap-out h = let e = ap (λ (n : Name). n .step) (only-one leapt (name 1 2) (name
 out : (b : Behaviour) (ks : List Call) → All Bytewise ks → (m n : ℕ) → last-number (by b ks) ≡ m → last-number (machine ks) ≡ n → FollowsBy site (behaving b site) → m ≡ n
 out b ks bytes m n p q h = differ m n (by b ks) (machine ks) p q (h ks bytes)
 
+-- as it should be
+
+same-call : (k : Call) (w : World) → behaving honest site k w ≡ called site k w
+same-call (worlds.Call.edit r pen bytes work output) w = refl
+same-call (worlds.Call.ship r since work output l) w = refl
+same-call (worlds.Call.ship-whole r output l) w = refl
+same-call (worlds.Call.deliver r l position memory) w = refl
+same-call (worlds.Call.lose l position) w = refl
+same-call (worlds.Call.repeat l position memory) w = refl
+same-call (worlds.Call.forget r t) w = refl
+same-call (worlds.Call.read r part place numbers) w = refl
+
+same-trace : (ks : List Call) (w : World) → traced (behaving honest site) w ks ≡ traced (called site) w ks
+same-trace [] w = refl
+same-trace (k ∷ ks) w = ap (λ (t : Turn World). t ∷ traced (behaving honest site) (t .after) ks) (same-call k w) ∙ ap (λ ts. called site k w ∷ ts) (same-trace ks (called site k w .after))
+
+honest-in : FollowsBy site (behaving honest site)
+honest-in ks bytes = same-trace ks (opened site) ∙ runs-keep-history site (record { some = omega arith; few = omega arith }) .follows ks bytes
+
 pub returns : need.returns
 returns c = record {
+  honest-is-in = honest-in;
   joining-nothing-is-out = λ h. let e = out joining-nothing exchange exchange-bytes 0 1 nothing-read exchanged h in omega arith;
   calling-all-old-is-out = λ h. let e = out calling-all-old exchange exchange-bytes 0 1 old-read exchanged h in omega arith;
   shipping-whole-is-out = λ h. let e = out shipping-whole second-only second-bytes 96 72 whole-sent interval h in omega arith;

@@ -1,30 +1,27 @@
 // The listing: a line for each entry.
-use crate::records::EntryLine;
-use crate::records::entry_of;
 use causal::places::Place;
 use std::fmt;
 use std::io;
+use stores::dot_store::DotStore;
+use stores::entries::Entry;
 
-// Prints the entries at the front of the journal, up to the first record that is no entry.
-pub fn list_entries(rt: &LibcRuntime, journal: &[u8]) -> io::Result<()> {
-    for index in 0..journal.len() / 24 {
-        let Some(entry) = entry_of(record_at(journal, index)) else {
-            break;
-        };
-        println!(rt, "{entry}")?;
+// Prints every entry of the store, in order.
+pub fn list_entries<S: DotStore>(rt: &LibcRuntime, store: &S) -> io::Result<()> {
+    for part in 0..S::part_count() {
+        for position in 0..store.count(part) {
+            if let Some(entry) = store.entry(part, position) {
+                let line = EntryLine { part, entry };
+                println!(rt, "{line}")?;
+            }
+        }
     }
     Ok(())
 }
 
-// The record at an index, or 24 bytes 0 past the last one.
-fn record_at(journal: &[u8], index: usize) -> [u8; 24] {
-    let mut record = [0; 24];
-    if index < journal.len() / 24 {
-        for i in 0..24 {
-            record[i] = journal[24 * index + i];
-        }
-    }
-    record
+#[derive(Clone, Copy)]
+struct EntryLine {
+    part: usize,
+    entry: Entry<u64>,
 }
 
 // The part, the place, the dot and the code, and in part 1 the number of phases.
@@ -32,10 +29,10 @@ impl fmt::Display for EntryLine as EntryLineDisplay {
     fn fmt<W: fmt::Write>(&self, f: &mut fmt::Formatter<W>) -> fmt::Result {
         let part = self.part;
         write!(f, "{part} ")?;
-        write_place(f, self.place)?;
-        let replica = self.dot.replica;
-        let counter = self.dot.counter;
-        let code = self.code;
+        write_place(f, self.entry.place)?;
+        let replica = self.entry.dot.replica;
+        let counter = self.entry.dot.counter;
+        let code = self.entry.value;
         write!(f, " {replica}:{counter} {code}")?;
         if part == 1 {
             let phases = code.count_ones();

@@ -1,4 +1,4 @@
-use mathlib.Core.Path.{_≡_, refl, sym, ap, subst, _∙_}
+use mathlib.Core.Path.{_≡_, sym, ap, subst, _∙_}
 use mathlib.Core.Logic.{inl, inr}
 use Prim.Native.Nat.{ℕ, _+_, _<_, _≤_}
 use native.Mathlib.Omega.{arith}
@@ -8,9 +8,6 @@ use Rattle.stores.proofs.Stays.{all-placed}
 use Rattle.joining.specs.Strikes.{remaining, Unstruck}
 use Rattle.joining.proofs.Struck.{all-free, remaining-free}
 use Rattle.joining.proofs.strikes.strike_lost.Needs as need
-
-pub loop-part-holds : need.loop-part-holds
-loop-part-holds g c s = (s, refl, λ t e. (refl, λ q l. absurd (omega arith)))
 
 pub loop-part-again : need.loop-part-again
 loop-part-again g c s =

@@ -44,3 +44,26 @@ fn lone_origin() -> Result<(), Fail> {
     let lone = laid_out(&[ORIGIN]);
     check_eq(as_parcel(&lone.all[0..24]), (0, 24))
 }
+
+// The runs 1:1–1, 1:3–3 and so on, up to 97 of them, and an origin.
+fn lone_runs(count: usize) -> [u8; 2352] {
+    let mut bytes = [0; 2352];
+    let runs = count.min(97);
+    for i in 0..runs {
+        let counter = (2 * i + 1) as u8;
+        bytes[24 * i] = 2;
+        bytes[24 * i + 2] = 1;
+        bytes[24 * i + 5] = counter;
+        bytes[24 * i + 7] = counter;
+    }
+    bytes[24 * runs] = 3;
+    bytes[24 * runs + 2] = 1;
+    bytes[24 * runs + 15] = 1;
+    bytes
+}
+
+#[test]
+fn most_runs() -> Result<(), Fail> {
+    check_eq(as_parcel(&lone_runs(96)[0..2328]), (0, 2328))?;
+    check_eq(as_parcel(&lone_runs(97)[0..2352]), (22, 96))
+}

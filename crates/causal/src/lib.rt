@@ -1,4 +1,6 @@
 // Dots, places and runs of dots: the ground that every layer stands on.
+#![tactic(auto)]
+
 pub mod dots;
 pub mod laws;
 pub mod places;

@@ -1,4 +1,6 @@
 // Tests of the crate causal. What is expected was worked out by hand from the rules in docs/DOTS.md.
+#![tactic(auto)]
+
 #[cfg(test)]
 mod contexts;
 #[cfg(test)]

@@ -1,4 +1,6 @@
 // Joining a group into a store and a context, wherever the group is read from.
+#![tactic(auto)]
+
 mod counts;
 mod dots;
 mod entering;

@@ -1,4 +1,6 @@
 // Value kinds: what a code of a part may be, and how two codes of one dot join.
+#![tactic(auto)]
+
 pub mod kind;
 pub mod laws;
 pub mod limit;

@@ -1,3 +1,5 @@
 // Pairs: two stores as one.
+#![tactic(auto)]
+
 mod halves;
 pub mod pair;

@@ -1,4 +1,6 @@
 // Records of 24 bytes: what each says, and writing them.
+#![tactic(auto)]
+
 pub mod bytes;
 pub mod fields;
 pub mod record;

@@ -1,4 +1,6 @@
 // Tests of the crate records. What is expected was worked out by hand from the rules in docs/GROUPS.md.
+#![tactic(auto)]
+
 #[cfg(test)]
 mod damaged;
 #[cfg(test)]

@@ -1,4 +1,6 @@
 // What a call answers when it refuses: a number, the layer that refuses, and a place.
+#![tactic(auto)]
+
 ghost use Rattle.std.specs.Prelude.{◌≡◌};
 ghost use Rattle.refusals.specs.Table.{refused};
 

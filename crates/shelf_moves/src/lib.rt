@@ -1,4 +1,6 @@
 // What is done with shelves of any make: written once against their interface.
+#![tactic(auto)]
+
 ghost use Rattle.std.specs.Prelude.{◌≡◌, ◌++◌, length, take, drop, if◌then◌else◌, MatchResult};
 ghost use Rattle.std.specs.List.{slice_get};
 ghost use Rattle.shelves.specs.Parcels.{copy_memory, told, append_refusal, after_append};

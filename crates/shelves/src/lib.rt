@@ -1,4 +1,6 @@
 // Bounded memory in which parcels wait: an interface, and two shelves over lent bytes.
+#![tactic(auto)]
+
 mod extent;
 pub mod fault;
 mod numbers;

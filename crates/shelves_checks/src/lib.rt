@@ -1,4 +1,6 @@
 // Examples of shelves, worked out by hand from their rules: lists of calls with the answers that each must give.
+#![tactic(auto)]
+
 use shelves::fault::ShelfFault;
 use shelves::shelf::Shelf;
 

@@ -1,4 +1,6 @@
 // Lists what a journal says: reads it from standard input, joins its groups into the three-part book, and prints the entries.
+#![tactic(auto)]
+
 ghost use Rattle.std.specs.Prelude.{◌≤◌, length, IfOk};
 
 mod journal;

@@ -1,4 +1,6 @@
 // Groups that can be read entry by entry, wherever they lie, and writing one into memory.
+#![tactic(auto)]
+
 pub mod laid_group;
 pub mod reading;
 pub mod record_list;

@@ -1,4 +1,6 @@
 // Checks of the stores, on examples whose answers follow from the rules by hand.
+#![tactic(auto)]
+
 #[cfg(test)]
 mod book_checks;
 #[cfg(test)]

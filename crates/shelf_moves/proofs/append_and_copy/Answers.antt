@@ -14,10 +14,10 @@ returns g c =
     let k = c.count-position.result in
     let e = c.append.ensures in
     let end : S.sound a → slice_get (S.parcels c.append.new.self) k ≡ Some p =
-    λ s. at_end (S.sizes a) (S.parcels a) (S.parcels c.append.new.self) p k (c.in-default.ensures.answer s) (e.after s) (c.count-position.ensures s) in
+    λ s. at_end (S.sizes a) (S.parcels a) (S.parcels c.append.new.self) p k (c.in_default.ensures.answer s) (e.after s) (c.count-position.ensures s) in
     record {
       sizes = e.sizes;
-      answer = λ s. back_answer (S.sizes a) (S.parcels a) p k (length m) (told c.copy.result) (c.in-default.ensures.answer s)
+      answer = λ s. back_answer (S.sizes a) (S.parcels a) p k (length m) (told c.copy.result) (c.in_default.ensures.answer s)
           (c.copy.ensures.answer (e.stays s) ∙ ap (λ o. copy_answer o k (length m)) (end s));
       copied = λ s. back_memory c.copy.result p m c.copy.new.memory k (c.copy.ensures.answer (e.stays s) ∙ ap (λ o. copy_answer o k (length m)) (end s))
           (c.copy.ensures.memory (e.stays s) ∙ ap (λ o. copy_memory o m) (end s));

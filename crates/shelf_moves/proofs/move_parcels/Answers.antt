@@ -20,8 +20,8 @@ loop-i-preserved g c =
     let m = c.args.memory.now in
     let now_from = c.loop-i.from in
     let now_to = c.loop-i.to in
-    let e = c.move-first.ensures in
-    let r : c.move-first.result ≡ true = c.if-not-move-first.false in (
+    let e = c.move_first.ensures in
+    let r : c.move_first.result ≡ true = c.if-not-move_first.false in (
       e.sizes.0 ∙ c.loop-i.invariant.0,
       e.sizes.1 ∙ c.loop-i.invariant.1,
       λ s t.
@@ -35,15 +35,15 @@ loop-i-preserved g c =
             (e.stays w.0 w.1).1,
             (e.spare w.0 w.1).0 ∙ w.2,
             (e.spare w.0 w.1).1 ∙ w.3,
-            way_more z ps qs m c.loop-i.i (A.parcels now_from) (B.parcels now_to) c.loop-i.memory (A.parcels c.move-first.new.from) (B.parcels c.move-first.new.to) c.move-first.new.memory lt w.4 passed
+            way_more z ps qs m c.loop-i.i (A.parcels now_from) (B.parcels now_to) c.loop-i.memory (A.parcels c.move_first.new.from) (B.parcels c.move_first.new.to) c.move_first.new.memory lt w.4 passed
                 (e.from w.0 w.1 ∙ ap (λ b. cond b (drop 1 (A.parcels now_from)) (A.parcels now_from)) r)
                 (e.to w.0 w.1 ∙ ap (λ b. cond b (B.parcels now_to ++ take 1 (A.parcels now_from)) (B.parcels now_to)) r)
                 (e.memory w.0),
           ),
     )
 
-pub returns-then-not-move-first : goal.returns-then-not-move-first
-returns-then-not-move-first g c =
+pub returns-then-not-move_first : goal.returns-then-not-move_first
+returns-then-not-move_first g c =
     let A = g.A.Shelf in
     let B = g.B.Shelf in
     let z = B.sizes c.args.to.now in
@@ -52,8 +52,8 @@ returns-then-not-move-first g c =
     let m = c.args.memory.now in
     let now_from = c.loop-i.from in
     let now_to = c.loop-i.to in
-    let e = c.move-first.ensures in
-    let r : c.move-first.result ≡ false = c.if-not-move-first.true in
+    let e = c.move_first.ensures in
+    let r : c.move_first.result ≡ false = c.if-not-move_first.true in
     record {
       sizes = (e.sizes.0 ∙ c.loop-i.invariant.0, e.sizes.1 ∙ c.loop-i.invariant.1);
       spare = λ s t. let w = c.loop-i.invariant.2 s t in ((e.spare w.0 w.1).0 ∙ w.2, (e.spare w.0 w.1).1 ∙ w.3);
@@ -64,8 +64,8 @@ returns-then-not-move-first g c =
           let failed : first_passes z (length m) (B.parcels now_to) (A.parcels now_from) ≡ false =
           ap (λ y. first_passes y (length m) (B.parcels now_to) (A.parcels now_from)) (sym c.loop-i.invariant.1)
           ∙ ap (λ k. first_passes (B.sizes now_to) k (B.parcels now_to) (A.parcels now_from)) (sym c.loop-i.auto.memory) ∙ sym (e.answer w.0 w.1) ∙ r in
-          way_stops (A.sound c.move-first.new.from) (B.sound c.move-first.new.to) z ps qs m c.loop-i.i (A.parcels now_from) (B.parcels now_to) c.loop-i.memory
-          (A.parcels c.move-first.new.from) (B.parcels c.move-first.new.to) c.move-first.new.memory lt w.4 failed
+          way_stops (A.sound c.move_first.new.from) (B.sound c.move_first.new.to) z ps qs m c.loop-i.i (A.parcels now_from) (B.parcels now_to) c.loop-i.memory
+          (A.parcels c.move_first.new.from) (B.parcels c.move_first.new.to) c.move_first.new.memory lt w.4 failed
           (e.from w.0 w.1 ∙ ap (λ b. cond b (drop 1 (A.parcels now_from)) (A.parcels now_from)) r)
           (e.to w.0 w.1 ∙ ap (λ b. cond b (B.parcels now_to ++ take 1 (A.parcels now_from)) (B.parcels now_to)) r)
           (e.memory w.0) (e.stays w.0 w.1).0 (e.stays w.0 w.1).1;

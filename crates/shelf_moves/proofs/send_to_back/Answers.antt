@@ -15,7 +15,7 @@ returns g c =
     let back : S.sound a → Behind (S.sizes b) ps (S.parcels b) (take (n - 0) c.copy.new.memory) =
     λ s. behind (S.sizes a) (S.sizes b) ps (S.parcels b) m c.copy.new.memory n (S.within a s) e.sizes (c.in-Ok.ensures.answer s) (c.copy.ensures.memory s)
     (e.after s ∙ others ps (length m) n (c.in-Ok.ensures.answer s)) in
-    let yes_is : S.sound a → c.is-ok.result ≡ true = λ s. c.is-ok.ensures.value ∙ ok_is_none c.append.result (c.append.ensures.answer (e.stays s) ∙ (back s).taken) in
+    let yes_is : S.sound a → c.is_ok.result ≡ true = λ s. c.is_ok.ensures.value ∙ ok_is_none c.append.result (c.append.ensures.answer (e.stays s) ∙ (back s).taken) in
     record {
       sizes = c.append.ensures.sizes ∙ e.sizes;
       answer = λ s. yes_is s ∙ sym (first_fits_ok ps (length m) n (c.in-Ok.ensures.answer s));

@@ -3,7 +3,7 @@ use Rattle.stores.specs.Items.{in_part, item_at}
 use Rattle.stores.proofs.Walking.{keep_one, skip_one, keep_none, nth_within}
 use Rattle.joining.specs.Strikes.{spared}
 use Rattle.joining.proofs.counts.count_staying.Goals as goal
-use Rattle.joining.proofs.counts.count_staying.Goals.{in-Some+then-not-is-struck, in-Some+else-not-is-struck, in-default}
+use Rattle.joining.proofs.counts.count_staying.Goals.{in-Some+then-not-is_struck, in-Some+else-not-is_struck, in_default}
 
 pub loop-i-preserved : goal.loop-i-preserved
 loop-i-preserved g c =
@@ -13,21 +13,21 @@ loop-i-preserved g c =
     let zs = filter (in_part p) (g.S.DotStore.entries c.args.store.now) in
     let low = c.loop-i.invariant.0 in
     elim c.match-entry.branch [
-      | in-Some+then-not-is-struck w ↦ (
+      | in-Some+then-not-is_struck w ↦ (
         (let u = w.staying-is in omega arith),
         λ s t e. let n = c.count-i-end.ensures s in let u = w.staying-is in let v = c.loop-i.invariant.1 s t e in
-            let k = keep_one (spared h) zs i (item_at p w.in-Some.entry) (omega arith) (w.in-Some.ensures s) (ap not (sym (w.is-struck.ensures t e) ∙ w.if-not-is-struck.true)) in
+            let k = keep_one (spared h) zs i (item_at p w.in-Some.entry) (omega arith) (w.in-Some.ensures s) (ap not (sym (w.is_struck.ensures t e) ∙ w.if-not-is_struck.true)) in
             omega arith,
       )
-      | in-Some+else-not-is-struck w ↦ (
+      | in-Some+else-not-is_struck w ↦ (
         (let u = w.staying-is in omega arith),
         λ s t e. let n = c.count-i-end.ensures s in let u = w.staying-is in let v = c.loop-i.invariant.1 s t e in
-            let k = skip_one (spared h) zs i (item_at p w.in-Some.entry) (omega arith) (w.in-Some.ensures s) (ap not (sym (w.is-struck.ensures t e) ∙ w.if-not-is-struck.false)) in
+            let k = skip_one (spared h) zs i (item_at p w.in-Some.entry) (omega arith) (w.in-Some.ensures s) (ap not (sym (w.is_struck.ensures t e) ∙ w.if-not-is_struck.false)) in
             omega arith,
       )
-      | in-default w ↦ (
+      | in_default w ↦ (
         (let u = w.staying-is in omega arith),
-        λ s t e. let n = c.count-i-end.ensures s in absurd (nth_within zs i (omega arith) (w.in-default.ensures s)),
+        λ s t e. let n = c.count-i-end.ensures s in absurd (nth_within zs i (omega arith) (w.in_default.ensures s)),
       )
     ]
 

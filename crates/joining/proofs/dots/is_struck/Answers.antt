@@ -7,7 +7,7 @@ pub returns-then-contains : goal.returns-then-contains
 returns-then-contains g c s e =
     let h = g.G.GroupSource.group c.args.group.now in
     let d = c.args.entry.dot in
-    struck_known h d c.has-entry.result (sym (ap (λ rs. has rs d) e) ∙ sym c.contains.ensures ∙ c.if-contains.true) (c.has-entry.ensures s)
+    struck_known h d c.has_entry.result (sym (ap (λ rs. has rs d) e) ∙ sym c.contains.ensures ∙ c.if-contains.true) (c.has_entry.ensures s)
 
 pub returns-else-contains : goal.returns-else-contains
 returns-else-contains g c s e =

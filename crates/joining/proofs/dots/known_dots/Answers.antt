@@ -3,7 +3,7 @@ use Rattle.std.proofs.lemmas.List.{take_all}
 use Rattle.contexts.specs.Contexts.{runs_of, with_run}
 use Rattle.joining.proofs.RunLists.{collect_more, no_nth}
 use Rattle.joining.proofs.dots.known_dots.Goals as goal
-use Rattle.joining.proofs.dots.known_dots.Goals.{in-Some, in-default}
+use Rattle.joining.proofs.dots.known_dots.Goals.{in-Some, in_default}
 
 pub loop-i-preserved : goal.loop-i-preserved
 loop-i-preserved g c s =
@@ -11,16 +11,16 @@ loop-i-preserved g c s =
     let t = c.args.group.now in
     let rs = (G.group t).runs in
     let i = c.loop-i.i in
-    let n = c.run-count-i-end.ensures s in
+    let n = c.run_count-i-end.ensures s in
     let h : i < length rs = omega arith in
-    elim c.match-run-at.branch [
-      | in-Some w ↦ ap runs_of w.known-is ∙ w.add-run.ensures.after ∙ ap (λ qs. with_run qs w.in-Some.run') (c.loop-i.invariant s)
+    elim c.match-run_at.branch [
+      | in-Some w ↦ ap runs_of w.known-is ∙ w.add_run.ensures.after ∙ ap (λ qs. with_run qs w.in-Some.run') (c.loop-i.invariant s)
           ∙ collect_more rs i w.in-Some.run' (G.readable t s).one_form (G.readable t s).few h (w.in-Some.ensures s)
-      | in-default w ↦ absurd (no_nth rs i h (w.in-default.ensures s))
+      | in_default w ↦ absurd (no_nth rs i h (w.in_default.ensures s))
     ]
 
 pub returns : goal.returns
 returns g c s =
     let rs = (g.G.GroupSource.group c.args.group.now).runs in
-    let n = c.run-count-i-end.ensures s in
+    let n = c.run_count-i-end.ensures s in
     c.loop-i.invariant s ∙ take_all c.loop-i.i rs (omega arith)

@@ -5,7 +5,7 @@ use Rattle.joining.proofs.entering.is_shut.Goals as goal
 
 pub returns-then-contains : goal.returns-then-contains
 returns-then-contains g c s =
-    shut_told (runs_of c.args.context.now) c.args.entry.dot (g.S.DotStore.entries c.args.store.now) c.is-held.result (sym c.contains.ensures ∙ c.if-contains.true) (c.is-held.ensures s)
+    shut_told (runs_of c.args.context.now) c.args.entry.dot (g.S.DotStore.entries c.args.store.now) c.is_held.result (sym c.contains.ensures ∙ c.if-contains.true) (c.is_held.ensures s)
 
 pub returns-else-contains : goal.returns-else-contains
 returns-else-contains g c s =

@@ -10,15 +10,15 @@ loop-part-preserved g c s =
     let v = c.loop-part.invariant s in
     let h = g.G.GroupSource.group c.args.group.now in
     let p = c.loop-part.part in
-    let a = c.strike-part.ensures.after v.0 in (
-      c.strike-part.ensures.stays v.0,
-      c.strike-part.ensures.room v.0 ∙ v.1,
+    let a = c.strike_part.ensures.after v.0 in (
+      c.strike_part.ensures.stays v.0,
+      c.strike_part.ensures.room v.0 ∙ v.1,
       λ t e.
           let w = v.2 t e in (
             (a t e).0 ∙ w.0,
             λ q l. elim (cases_lt q p) [
               | inl b ↦ (a t e).2 q (w.1 q b)
-              | inr b ↦ let m : p ≡ q = omega arith in subst (λ n. Unstruck h n (g.S.DotStore.entries c.strike-part.new.store)) m (a t e).1
+              | inr b ↦ let m : p ≡ q = omega arith in subst (λ n. Unstruck h n (g.S.DotStore.entries c.strike_part.new.store)) m (a t e).1
             ],
           ),
     )
@@ -28,7 +28,7 @@ returns g c =
     let S = g.S.DotStore in
     let h = g.G.GroupSource.group c.args.group.now in
     let t = c.loop-part.store in
-    let k = c.part-count-part-end.ensures in
+    let k = c.part_count-part-end.ensures in
     record {
       room = λ s. (c.loop-part.invariant s).1;
       after = λ s m e.

@@ -21,10 +21,10 @@ loop-i-preserved g c s =
     let v = c.loop-i.invariant s in
     let h = g.G.GroupSource.group c.args.group.now in
     let zs = filter (in_part c.args.part) (g.S.DotStore.entries c.loop-i.store) in
-    (v.0, v.1, λ t e. ((v.2 t e).0, free_past h zs (c.loop-i.i - 1) (c.in-default.ensures v.0), (v.2 t e).2))
+    (v.0, v.1, λ t e. ((v.2 t e).0, free_past h zs (c.loop-i.i - 1) (c.in_default.ensures v.0), (v.2 t e).2))
 
-pub loop-i-preserved-then-is-struck : goal.loop-i-preserved-then-is-struck
-loop-i-preserved-then-is-struck g c s =
+pub loop-i-preserved-then-is_struck : goal.loop-i-preserved-then-is_struck
+loop-i-preserved-then-is_struck g c s =
     let v = c.loop-i.invariant s in
     let S = g.S.DotStore in
     let h = g.G.GroupSource.group c.args.group.now in
@@ -37,7 +37,7 @@ loop-i-preserved-then-is-struck g c s =
       c.strike.ensures.room ∙ v.1,
       λ t e.
           let w = v.2 t e in
-          let b = sym (c.is-struck.ensures t e) ∙ c.if-is-struck.true in (
+          let b = sym (c.is_struck.ensures t e) ∙ c.if-is_struck.true in (
             ap (remaining h) after ∙ strike_one h x.dot xs b ∙ w.0,
             subst (λ ys. Free h (drop (i - 1) (filter (in_part p) ys))) (sym after)
                 (turn_struck h p xs (i - 1) (item_at p x) (c.in-Some.ensures v.0) (step_down h (filter (in_part p) xs) i c.loop-i-test.true w.1)),
@@ -45,8 +45,8 @@ loop-i-preserved-then-is-struck g c s =
           ),
     )
 
-pub loop-i-preserved-else-is-struck : goal.loop-i-preserved-else-is-struck
-loop-i-preserved-else-is-struck g c s =
+pub loop-i-preserved-else-is_struck : goal.loop-i-preserved-else-is_struck
+loop-i-preserved-else-is_struck g c s =
     let v = c.loop-i.invariant s in
     let h = g.G.GroupSource.group c.args.group.now in
     let p = c.args.part in
@@ -57,7 +57,7 @@ loop-i-preserved-else-is-struck g c s =
       v.1,
       λ t e.
           let w = v.2 t e in
-          (w.0, turn_spared h p xs (i - 1) (item_at p x) (c.in-Some.ensures v.0) (step_down h (filter (in_part p) xs) i c.loop-i-test.true w.1) (sym (c.is-struck.ensures t e) ∙ c.if-is-struck.false), w.2),
+          (w.0, turn_spared h p xs (i - 1) (item_at p x) (c.in-Some.ensures v.0) (step_down h (filter (in_part p) xs) i c.loop-i-test.true w.1) (sym (c.is_struck.ensures t e) ∙ c.if-is_struck.false), w.2),
     )
 
 pub returns : goal.returns

@@ -8,7 +8,7 @@ use Rattle.pairs.proofs.halves.entry_in.Goals as goal
 pub returns-then-part-parts : goal.returns-then-part-parts
 returns-then-part-parts g c sa sb =
     let ka = g.A.DotStore.kinds in
-    let n : c.part-count-parts.result ≡ length ka = c.part-count-parts.ensures in
+    let n : c.part_count-parts.result ≡ length ka = c.part_count-parts.ensures in
     c.entry.ensures sa ∙ sym (entry_low (length ka) c.args.part (g.A.DotStore.entries c.args.first.now) (g.B.DotStore.entries c.args.second.now) c.args.position (omega arith))
 
 pub returns-else-part-parts : goal.returns-else-part-parts
@@ -18,6 +18,6 @@ returns-else-part-parts g c sa sb =
     let xs = g.A.DotStore.entries c.args.first.now in
     let ys = g.B.DotStore.entries c.args.second.now in
     let r = c.entry-else-part-parts.result in
-    let n : c.part-count-parts.result ≡ length ka = c.part-count-parts.ensures in
+    let n : c.part_count-parts.result ≡ length ka = c.part_count-parts.ensures in
     entry_high (length ka) p xs ys c.args.position (all_placed ka xs (g.A.DotStore.orderly c.args.first.now sa).proper) (omega arith) r
     (subst (λ j. option_map (item_at (p - j)) r ≡ entry_at (p - j) c.args.position ys) n (c.entry-else-part-parts.ensures sb))

@@ -15,13 +15,13 @@ returns-in-Some-find g c sa sb =
     let ys = g.B.DotStore.entries c.args.second.now in
     let p = c.in-Some-find.part in
     let e = c.in-Some-find.entry in
-    let n : c.part-count.result ≡ length ka = c.part-count.ensures in
+    let n : c.part_count.result ≡ length ka = c.part_count.ensures in
     let few = g.A.DotStore.parts.few in
     let fewer = g.B.DotStore.parts.few in
     let h : p < length kb = found_part (length kb) c.args.dot (item_at p e) ys (all_placed kb ys (g.B.DotStore.orderly c.args.second.now sb).proper) (c.in-Some-find.ensures sb) in
-    let q : c.saturating-add.result ≡ length ka + p = omega arith in
-    found_second (length ka) p c.saturating-add.result c.args.dot e (g.A.DotStore.entries c.args.first.now) ys (c.in-default.ensures sa) (c.in-Some-find.ensures sb) q
+    let q : c.saturating_add.result ≡ length ka + p = omega arith in
+    found_second (length ka) p c.saturating_add.result c.args.dot e (g.A.DotStore.entries c.args.first.now) ys (c.in_default.ensures sa) (c.in-Some-find.ensures sb) q
 
 pub returns-in-None : goal.returns-in-None
 returns-in-None g c sa sb =
-    found_none (length g.A.DotStore.kinds) c.args.dot (g.A.DotStore.entries c.args.first.now) (g.B.DotStore.entries c.args.second.now) (c.in-default.ensures sa) (c.in-None.ensures sb)
+    found_none (length g.A.DotStore.kinds) c.args.dot (g.A.DotStore.entries c.args.first.now) (g.B.DotStore.entries c.args.second.now) (c.in_default.ensures sa) (c.in-None.ensures sb)

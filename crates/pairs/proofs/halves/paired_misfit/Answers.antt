@@ -7,7 +7,7 @@ pub returns-then-part-parts : goal.returns-then-part-parts
 returns-then-part-parts g c =
     let ka = g.A.DotStore.kinds in
     let kb = g.B.DotStore.kinds in
-    let n : c.part-count-parts.result ≡ length ka = c.part-count-parts.ensures in
+    let n : c.part_count-parts.result ≡ length ka = c.part_count-parts.ensures in
     c.misfit.ensures ∙ ap (λ o. misfit_of o c.args.entry) (sym (nth_low ka kb c.args.part g.A.DotStore.parts.few (omega arith)))
 
 pub returns-then-part-ge-MOST-PARTS : goal.returns-then-part-ge-MOST-PARTS
@@ -19,5 +19,5 @@ returns g c =
     let ka = g.A.DotStore.kinds in
     let kb = g.B.DotStore.kinds in
     let p = c.args.part in
-    let n : c.part-count-parts.result ≡ length ka = c.part-count-parts.ensures in
+    let n : c.part_count-parts.result ≡ length ka = c.part_count-parts.ensures in
     c.misfit-2.ensures ∙ ap (λ j. misfit kb (p - j) c.args.entry) n ∙ ap (λ o. misfit_of o c.args.entry) (sym (nth_high ka kb p (omega arith) c.if-part-ge-MOST-PARTS.false))

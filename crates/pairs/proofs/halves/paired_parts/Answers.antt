@@ -9,8 +9,8 @@ returns-then-parts-lt-MOST-PARTS g c =
     let kb = g.B.DotStore.kinds in
     let l = length-append ka kb in
     let t = length-take most_parts (ka ++ kb) in
-    let n = c.part-count.ensures in
-    let m = c.part-count-2.ensures in
+    let n = c.part_count.ensures in
+    let m = c.part_count-2.ensures in
     omega arith
 
 pub returns-else-parts-lt-MOST-PARTS : goal.returns-else-parts-lt-MOST-PARTS
@@ -19,6 +19,6 @@ returns-else-parts-lt-MOST-PARTS g c =
     let kb = g.B.DotStore.kinds in
     let l = length-append ka kb in
     let t = length-take most_parts (ka ++ kb) in
-    let n = c.part-count.ensures in
-    let m = c.part-count-2.ensures in
+    let n = c.part_count.ensures in
+    let m = c.part_count-2.ensures in
     omega arith

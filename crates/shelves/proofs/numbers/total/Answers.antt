@@ -10,7 +10,7 @@ loop-i-preserved c =
     let i = c.loop-i.i in
     let s = sum_by_more (λ x. x) xs i 0 (omega arith) in
     let inv = c.loop-i.invariant in
-    let more = c.saturating-add-so-far.ensures in
+    let more = c.saturating_add-so_far.ensures in
     omega arith
 
 pub returns : goal.returns

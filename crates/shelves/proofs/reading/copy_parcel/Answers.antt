@@ -24,5 +24,5 @@ returns c =
     let at = c.args.position in
     record {
       answer = sym (ap (λ o. copy_answer (parcel_in f o) at (length m)) c.in-Some.is ∙ answer_long f e.from e.length at (length m) c.if-extent-memory.false);
-      memory = c.copy-out.ensures ∙ sym (ap (λ o. copy_memory (parcel_in f o) m) c.in-Some.is ∙ memory_long f e.from e.length m c.if-extent-memory.false);
+      memory = c.copy_out.ensures ∙ sym (ap (λ o. copy_memory (parcel_in f o) m) c.in-Some.is ∙ memory_long f e.from e.length m c.if-extent-memory.false);
     }

@@ -9,7 +9,7 @@ pub returns-then-index-extent : goal.returns-then-index-extent
 returns-then-index-extent c =
     let e = c.in-Some.extent in
     let f = byte c.args.bytes.now c.args.room c.args.start in
-    c.copy-out.ensures ∙ record_there f e.from e.length c.args.index c.if-index-extent.true
+    c.copy_out.ensures ∙ record_there f e.from e.length c.args.index c.if-index-extent.true
     ∙ sym (ap (λ o. record_of (parcel_in f o) c.args.index) c.in-Some.is)
 
 pub returns-else-index-extent : goal.returns-else-index-extent

@@ -23,10 +23,10 @@ returns c =
     let room = c.args.room in
     let start = c.args.start in
     let e = c.args.extent in
-    let n : c.saturating-sub.result ≡ c.args.held - (e.from + e.length) = c.saturating-sub.ensures in
-    let made = c.slide-down.ensures ∙ ap (slid bytes room start e.from e.length) n in
+    let n : c.saturating_sub.result ≡ c.args.held - (e.from + e.length) = c.saturating_sub.ensures in
+    let made = c.slide_down.ensures ∙ ap (slid bytes room start e.from e.length) n in
     record {
-      moved = λ s k u f i h. closed_middle bytes c.slide-down.new.bytes room start e.from e.length c.args.held i s k u f h made;
+      moved = λ s k u f i h. closed_middle bytes c.slide_down.new.bytes room start e.from e.length c.args.held i s k u f h made;
       begins = λ s l. s;
       spare = λ s u f. ap (drop room) made ∙ slid_spare bytes room start e.from e.length (c.args.held - (e.from + e.length)) s (omega arith);
       front = λ z. absurd (c.if-extent-eq0.false z);

@@ -6,6 +6,6 @@ use Rattle.shelves.proofs.round.slide_down.Goals as goal
 pub loop-i-preserved : goal.loop-i-preserved
 loop-i-preserved c =
     let i = c.loop-i.i in
-    ap (λ zs. slid zs c.args.room c.args.start (c.args.at + (i + 1)) c.args.gap (c.args.count - (i + 1))) c.put-byte.ensures
-    ∙ slid_more c.loop-i.bytes c.args.room c.args.start c.args.at c.args.gap i c.args.count c.byte-at-b.result (omega arith) c.byte-at-b.ensures
+    ap (λ zs. slid zs c.args.room c.args.start (c.args.at + (i + 1)) c.args.gap (c.args.count - (i + 1))) c.put_byte.ensures
+    ∙ slid_more c.loop-i.bytes c.args.room c.args.start c.args.at c.args.gap i c.args.count c.byte_at-b.result (omega arith) c.byte_at-b.ensures
     ∙ c.loop-i.invariant

@@ -7,7 +7,7 @@ pub loop-i-preserved : goal.loop-i-preserved
 loop-i-preserved c =
     let i = c.loop-i.i in
     let news = c.args.news.now in
-    ap (λ zs. laid zs c.args.room c.args.start (c.args.from + (i + 1)) (drop (i + 1) news)) c.put-byte.ensures
+    ap (λ zs. laid zs c.args.room c.args.start (c.args.from + (i + 1)) (drop (i + 1) news)) c.put_byte.ensures
     ∙ laid_more c.loop-i.bytes c.args.room c.args.start c.args.from i (get_or news i 0) news (omega arith) refl ∙ c.loop-i.invariant
 
 pub returns : goal.returns

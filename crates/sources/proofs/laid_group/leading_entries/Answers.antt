@@ -7,15 +7,15 @@ pub loop-i-preserved : goal.loop-i-preserved
 loop-i-preserved g c s =
     let f = record_in (g.R.RecordList.bytes c.args.records.now) in
     let here : is_some (entry_part (f c.loop-i.i)) ≡ true =
-    sym (ap is_some (c.entry-in.ensures ∙ ap (λ r. entry_part (decoded r)) (c.nth-record.ensures s))) ∙ c.is-none.ensures ∙ ap not c.if-is-none.false in
+    sym (ap is_some (c.entry_in.ensures ∙ ap (λ r. entry_part (decoded r)) (c.nth_record.ensures s))) ∙ c.is_none.ensures ∙ ap not c.if-is_none.false in
     below_more (λ k. is_some (entry_part (f k)) ≡ true) c.loop-i.i (c.loop-i.invariant s) here
 
-pub returns-then-is-none : goal.returns-then-is-none
-returns-then-is-none g c = record {
+pub returns-then-is_none : goal.returns-then-is_none
+returns-then-is_none g c = record {
   within = omega arith;
   leads = λ s. record {
     entries = c.loop-i.invariant s;
-    then_other = λ _. sym (ap is_some (c.entry-in.ensures ∙ ap (λ r. entry_part (decoded r)) (c.nth-record.ensures s))) ∙ c.is-none.ensures ∙ ap not c.if-is-none.true;
+    then_other = λ _. sym (ap is_some (c.entry_in.ensures ∙ ap (λ r. entry_part (decoded r)) (c.nth_record.ensures s))) ∙ c.is_none.ensures ∙ ap not c.if-is_none.true;
   };
 }
 

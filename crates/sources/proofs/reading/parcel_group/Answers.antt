@@ -10,4 +10,4 @@ returns g c =
     let p = c.placed.ensures in
     let small : length bytes < 2 ^ 64 = omega arith in
     parcel_answers ks bytes small c.placed.result p.memory (p.entries ∙ ap (λ s. s.entries) (mathlib.Core.Path.sym p.summary)) (p.runs ∙ ap (λ s. s.runs) (mathlib.Core.Path.sym p.summary))
-    (parcel_group ks bytes) refl (ap Ok p.summary ∙ c.in-ok-summary.ensures)
+    (parcel_group ks bytes) refl (ap Ok p.summary ∙ c.in_ok-summary.ensures)

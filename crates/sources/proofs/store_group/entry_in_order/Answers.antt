@@ -13,7 +13,7 @@ returns-then-left-count g c s =
     let S = g.S.DotStore in
     let m = c.args.store.now in
     let n = c.count-count.ensures s in
-    c.entry-of-part.ensures s ∙ in_this_part (S.entries m) (S.orderly m s).ascends c.loop-part.part c.loop-part.left (omega arith) ∙ c.loop-part.invariant s
+    c.entry_of_part.ensures s ∙ in_this_part (S.entries m) (S.orderly m s).ascends c.loop-part.part c.loop-part.left (omega arith) ∙ c.loop-part.invariant s
 
 pub loop-part-preserved : goal.loop-part-preserved
 loop-part-preserved g c s =
@@ -27,6 +27,6 @@ pub returns : goal.returns
 returns g c s =
     let S = g.S.DotStore in
     let m = c.args.store.now in
-    let k = c.part-count-part-end.ensures in
+    let k = c.part_count-part-end.ensures in
     let e : length S.kinds ≡ c.loop-part.part = omega arith in
     sym (from_end (length S.kinds) (S.entries m) c.loop-part.left (all_placed S.kinds (S.entries m) (S.orderly m s).proper)) ∙ ap (λ p. slice_get (from_part p (S.entries m)) c.loop-part.left) e ∙ c.loop-part.invariant s

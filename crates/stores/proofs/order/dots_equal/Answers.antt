@@ -6,5 +6,5 @@ use Rattle.stores.proofs.order.dots_equal.Goals as goal
 pub returns-in-Equal : goal.returns-in-Equal
 returns-in-Equal c = sym (equal_same dots_total c.args.d c.args.e c.in-Equal.ensures)
 
-pub returns-in-default : goal.returns-in-default
-returns-in-default c = sym (not_equal_told dots_total c.args.d c.args.e c.compare-dots.result c.compare-dots.ensures c.in-default.not-Equal)
+pub returns-in_default : goal.returns-in_default
+returns-in_default c = sym (not_equal_told dots_total c.args.d c.args.e c.compare_dots.result c.compare_dots.ensures c.in_default.not-Equal)

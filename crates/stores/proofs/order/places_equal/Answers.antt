@@ -6,5 +6,5 @@ use Rattle.stores.proofs.order.places_equal.Goals as goal
 pub returns-in-Equal : goal.returns-in-Equal
 returns-in-Equal c = sym (equal_same places_total c.args.p c.args.q c.in-Equal.ensures)
 
-pub returns-in-default : goal.returns-in-default
-returns-in-default c = sym (not_equal_told places_total c.args.p c.args.q c.compare-places.result c.compare-places.ensures c.in-default.not-Equal)
+pub returns-in_default : goal.returns-in_default
+returns-in_default c = sym (not_equal_told places_total c.args.p c.args.q c.compare_places.result c.compare_places.ensures c.in_default.not-Equal)

@@ -19,20 +19,20 @@ returns-in-Greater c =
     let h = greater_apart places_total p q c.in-Greater.ensures in
     sym (or_from (place_less p q) (same_place p q && dot_less c.args.d c.args.e) h.0 (and_left (same_place p q) (dot_less c.args.d c.args.e) h.1))
 
-pub returns-in-Less-compare-dots : goal.returns-in-Less-compare-dots
-returns-in-Less-compare-dots c =
+pub returns-in-Less-compare_dots : goal.returns-in-Less-compare_dots
+returns-in-Less-compare_dots c =
     let p = c.args.p in
     let q = c.args.q in
     let d = c.args.d in
     let e = c.args.e in
     sym (or_right (place_less p q) (same_place p q && dot_less d e)
-    (and_from (same_place p q) (dot_less d e) (equal_same places_total p q c.in-Equal.ensures) (less_told dots_total d e c.in-Less-compare-dots.ensures)))
+    (and_from (same_place p q) (dot_less d e) (equal_same places_total p q c.in-Equal.ensures) (less_told dots_total d e c.in-Less-compare_dots.ensures)))
 
-pub returns-in-default : goal.returns-in-default
-returns-in-default c =
+pub returns-in_default : goal.returns-in_default
+returns-in_default c =
     let p = c.args.p in
     let q = c.args.q in
     let d = c.args.d in
     let e = c.args.e in
     sym (or_from (place_less p q) (same_place p q && dot_less d e) (equal_level places_total p q c.in-Equal.ensures)
-    (and_right (same_place p q) (dot_less d e) (not_less_told dots_total d e c.compare-dots.result c.compare-dots.ensures c.in-default.not-Less)))
+    (and_right (same_place p q) (dot_less d e) (not_less_told dots_total d e c.compare_dots.result c.compare_dots.ensures c.in_default.not-Less)))

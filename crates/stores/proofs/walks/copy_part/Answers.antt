@@ -5,7 +5,7 @@ use Rattle.stores.specs.Puts.{put_after}
 use Rattle.stores.specs.Walks.{put_each}
 use Rattle.stores.proofs.Walking.{drop_nth, nth_within}
 use Rattle.stores.proofs.walks.copy_part.Goals as goal
-use Rattle.stores.proofs.walks.copy_part.Goals.{in-Some, in-default}
+use Rattle.stores.proofs.walks.copy_part.Goals.{in-Some, in_default}
 
 pub loop-i-preserved : goal.loop-i-preserved
 loop-i-preserved g c a =
@@ -30,10 +30,10 @@ loop-i-preserved g c a =
             ∙ ap (put_each S.kinds (S.capacities old) p (S.entries m)) (sym (drop_nth ys i (item_at p e) h (w.in-Some.ensures r)))
             ∙ inv.2 r,
       )
-      | in-default w ↦ subst Q (sym w.into-is) (
+      | in_default w ↦ subst Q (sym w.into-is) (
         inv.0,
         inv.1,
-        λ r. let n = c.count-i-end.ensures r in let h : i < length ys = omega arith in absurd (nth_within ys i h (w.in-default.ensures r)),
+        λ r. let n = c.count-i-end.ensures r in let h : i < length ys = omega arith in absurd (nth_within ys i h (w.in_default.ensures r)),
       )
     ]
 

@@ -15,7 +15,7 @@ loop-part-preserved g c s =
     let n = c.count.ensures s in
     let m = counts_more i xs in
     let few = S.parts.few in
-    let k = c.part-count-part-end.ensures in
+    let k = c.part_count-part-end.ensures in
     let a = counts_small S.kinds (S.capacities t) xs i (S.roomy t) o in
     let b = count_small S.kinds (S.capacities t) xs i (S.roomy t) o in
     omega arith
@@ -24,6 +24,6 @@ pub returns : goal.returns
 returns g c s =
     let S = g.S.DotStore in
     let t = c.args.store.now in
-    let k = c.part-count-part-end.ensures in
+    let k = c.part_count-part-end.ensures in
     let i : c.loop-part.part ≡ length S.kinds = omega arith in
     c.loop-part.invariant s ∙ ap (λ n. count_parts n (S.entries t)) i ∙ part_counts_add_up S.kinds (S.capacities t) (S.entries t) (S.orderly t s)

@@ -3,7 +3,7 @@ use Rattle.stores.specs.Items.{in_part, item_at}
 use Rattle.stores.specs.Walks.{lies_under}
 use Rattle.stores.proofs.Walking.{keep_one, skip_one, keep_none, nth_within}
 use Rattle.stores.proofs.walks.count_under.Goals as goal
-use Rattle.stores.proofs.walks.count_under.Goals.{in-Some+then-lies-under, in-Some+else-lies-under, in-default}
+use Rattle.stores.proofs.walks.count_under.Goals.{in-Some+then-lies_under, in-Some+else-lies_under, in_default}
 
 pub loop-i-preserved : goal.loop-i-preserved
 unfolding lies_under
@@ -16,21 +16,21 @@ loop-i-preserved g c =
     let ys = filter (in_part p) (S.entries t) in
     let low = c.loop-i.invariant.0 in
     elim c.match-entry.branch [
-      | in-Some+then-lies-under w ↦ (
+      | in-Some+then-lies_under w ↦ (
         (let u = w.under-is in omega arith),
         λ s. let n = c.count-i-end.ensures s in let u = w.under-is in let e = c.loop-i.invariant.1 s in
-            let k = keep_one f ys i (item_at p w.in-Some.entry) (omega arith) (w.in-Some.ensures s) (sym w.lies_under.ensures ∙ w.if-lies-under.true) in
+            let k = keep_one f ys i (item_at p w.in-Some.entry) (omega arith) (w.in-Some.ensures s) (sym w.lies_under.ensures ∙ w.if-lies_under.true) in
             omega arith,
       )
-      | in-Some+else-lies-under w ↦ (
+      | in-Some+else-lies_under w ↦ (
         (let u = w.under-is in omega arith),
         λ s. let n = c.count-i-end.ensures s in let u = w.under-is in let e = c.loop-i.invariant.1 s in
-            let k = skip_one f ys i (item_at p w.in-Some.entry) (omega arith) (w.in-Some.ensures s) (sym w.lies_under.ensures ∙ w.if-lies-under.false) in
+            let k = skip_one f ys i (item_at p w.in-Some.entry) (omega arith) (w.in-Some.ensures s) (sym w.lies_under.ensures ∙ w.if-lies_under.false) in
             omega arith,
       )
-      | in-default w ↦ (
+      | in_default w ↦ (
         (let u = w.under-is in omega arith),
-        λ s. let n = c.count-i-end.ensures s in absurd (nth_within ys i (omega arith) (w.in-default.ensures s)),
+        λ s. let n = c.count-i-end.ensures s in absurd (nth_within ys i (omega arith) (w.in_default.ensures s)),
       )
     ]
 

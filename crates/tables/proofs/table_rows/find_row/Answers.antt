@@ -8,4 +8,4 @@ use Rattle.tables.proofs.table_rows.find_row.Goals as goal
 pub returns : goal.returns
 returns g c =
     let xs = items g.K.Kind.code c.args.rows.now in
-    c.row-at.ensures ∙ ap (slice_get xs) (sought g.K.Kind.code g.K.Kind.kind c.args.dot c.args.rows.now c.seek-at.result c.seek-at.ensures) ∙ find_is c.args.dot xs
+    c.row_at.ensures ∙ ap (slice_get xs) (sought g.K.Kind.code g.K.Kind.kind c.args.dot c.args.rows.now c.seek-at.result c.seek-at.ensures) ∙ find_is c.args.dot xs

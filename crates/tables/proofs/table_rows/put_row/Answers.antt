@@ -16,12 +16,12 @@ returns-then-found-len g c _ a =
     record {
       room = λ f. absurd (both_ways _ f (found_stands g.K.Kind.code g.K.Kind.kind rows len c.args.row.dot n c.requires is c.if-found-len.true));
       within = omega arith;
-      held = put_found g.K.Kind.code g.K.Kind.kind rows len c.args.row n c.requires is c.if-found-len.true c.join-at.new.rows c.join-at.ensures.joined a;
-      rest = drop_further c.join-at.new.rows rows (n + 1) len (omega arith) c.join-at.ensures.rest;
+      held = put_found g.K.Kind.code g.K.Kind.kind rows len c.args.row n c.requires is c.if-found-len.true c.join_at.new.rows c.join_at.ensures.joined a;
+      rest = drop_further c.join_at.new.rows rows (n + 1) len (omega arith) c.join_at.ensures.rest;
     }
 
-pub returns-then-len-usable-rows : goal.returns-then-len-usable-rows
-returns-then-len-usable-rows g c _ a =
+pub returns-then-len-usable_rows : goal.returns-then-len-usable_rows
+returns-then-len-usable_rows g c _ a =
     let rows = c.args.rows.now in
     let len = c.args.len in
     let z : len - 0 ≡ len = omega arith in
@@ -29,16 +29,16 @@ returns-then-len-usable-rows g c _ a =
     let is : n ≡ lead (other c.args.row.dot) (take len rows) = c.seek-found.ensures ∙ ap (λ j. lead (other c.args.row.dot) (take j rows)) z in
     record {
       absent = unfound_stands g.K.Kind.code g.K.Kind.kind rows len c.args.row.dot n c.requires is c.if-found-len.false;
-      full = omega (arith, c.usable-rows.ensures);
+      full = omega (arith, c.usable_rows.ensures);
       kept = refl;
     }
 
-pub insert-at-requires : goal.insert-at-requires
-insert-at-requires g c =
+pub insert_at-requires : goal.insert_at-requires
+insert_at-requires g c =
     let rows = c.args.rows.now in
     let len = c.args.len in
     let z : len - 0 ≡ len = omega arith in
-    record { within = omega (arith, c.position-at.ensures.within, length-take-le (len - 0) rows (omega arith)); room = omega (arith, c.usable-rows.ensures) }
+    record { within = omega (arith, c.position-at.ensures.within, length-take-le (len - 0) rows (omega arith)); room = omega (arith, c.usable_rows.ensures) }
 
 pub returns : goal.returns
 returns g c o a =
@@ -51,8 +51,8 @@ returns g c o a =
     subst (λ j. Falls (ahead c.args.row.place c.args.row.dot) (take j rows) → c.position-at.result ≡ lead (ahead c.args.row.place c.args.row.dot) (take j rows)) z c.position-at.ensures.rank
     (falls g.K.Kind.code g.K.Kind.kind c.args.row (take len rows) o) in
     record {
-      room = λ _. omega (arith, c.usable-rows.ensures);
-      within = omega (arith, c.usable-rows.ensures);
-      held = put_new g.K.Kind.code g.K.Kind.kind rows len c.args.row n c.requires is c.if-found-len.false c.insert-at.new.rows c.position-at.result at c.insert-at.ensures.used;
-      rest = c.insert-at.ensures.rest;
+      room = λ _. omega (arith, c.usable_rows.ensures);
+      within = omega (arith, c.usable_rows.ensures);
+      held = put_new g.K.Kind.code g.K.Kind.kind rows len c.args.row n c.requires is c.if-found-len.false c.insert_at.new.rows c.position-at.result at c.insert_at.ensures.used;
+      rest = c.insert_at.ensures.rest;
     }

@@ -12,8 +12,8 @@ returns-then-found-len g c a =
     let is : n ≡ lead (other c.args.dot) (take len rows) = c.seek-found.ensures ∙ ap (λ j. lead (other c.args.dot) (take j rows)) z in
     record {
       within = omega arith;
-      held = struck_found g.K.Kind.code g.K.Kind.kind rows len c.args.dot n c.requires is c.if-found-len.true c.remove-at.new.rows c.remove-at.ensures.used a;
-      rest = c.remove-at.ensures.rest;
+      held = struck_found g.K.Kind.code g.K.Kind.kind rows len c.args.dot n c.requires is c.if-found-len.true c.remove_at.new.rows c.remove_at.ensures.used a;
+      rest = c.remove_at.ensures.rest;
     }
 
 pub returns : goal.returns

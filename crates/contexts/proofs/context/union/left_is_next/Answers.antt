@@ -24,5 +24,5 @@ returns-else-j-ys c =
     let i = c.args.i in
     let j = c.args.j in
     let y = get_or ys j (run 0 0 0) in
-    c.starts-no-later.ensures
+    c.starts_no_later.ensures
     ∙ sym (at_drop_more (λ rs. left_next (drop i xs) rs) ys j (run 0 0 0) c.if-j-ys.false ∙ at_drop_more (λ ls. left_next ls (y ∷ drop (j + 1) ys)) xs i (run 0 0 0) c.if-i-xs.false)

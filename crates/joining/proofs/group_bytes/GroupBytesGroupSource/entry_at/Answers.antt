@@ -12,4 +12,4 @@ returns-then-index-self c s = let b = c.args.self.now in no_entry (record_in b.b
 pub returns : goal.returns
 returns c s =
     let b = c.args.self.now in
-    ap (option_map item_in) (c.entry-in.ensures ∙ ap (λ r. entry_part (decoded r)) c.record_at.ensures) ∙ laid_entry (record_in b.bytes.now) b.entries b.runs s c.args.index (omega arith)
+    ap (option_map item_in) (c.entry_in.ensures ∙ ap (λ r. entry_part (decoded r)) c.record_at.ensures) ∙ laid_entry (record_in b.bytes.now) b.entries b.runs s c.args.index (omega arith)

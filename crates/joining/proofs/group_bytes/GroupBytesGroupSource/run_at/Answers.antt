@@ -12,6 +12,6 @@ returns-then-index-self c s = let b = c.args.self.now in no_run (record_in b.byt
 pub returns : goal.returns
 returns c s =
     let b = c.args.self.now in
-    let sum = c.saturating-add.ensures in
+    let sum = c.saturating_add.ensures in
     let fits = s.fits in
-    c.run-in.ensures ∙ ap (λ r. run_part (decoded r)) c.record_at.ensures ∙ laid_run (record_in b.bytes.now) b.entries b.runs s c.args.index c.saturating-add.result (omega arith) (omega arith)
+    c.run_in.ensures ∙ ap (λ r. run_part (decoded r)) c.record_at.ensures ∙ laid_run (record_in b.bytes.now) b.entries b.runs s c.args.index c.saturating_add.result (omega arith) (omega arith)

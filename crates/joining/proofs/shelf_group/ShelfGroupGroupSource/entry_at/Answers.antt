@@ -12,4 +12,4 @@ returns-then-index-self g c s = let b = c.args.self.now in no_entry (record_on (
 pub returns : goal.returns
 returns g c s =
     let b = c.args.self.now in
-    ap (option_map item_in) (c.entry-in.ensures ∙ ap (λ r. entry_part (decoded r)) (c.record_at.ensures s.shelf_sound)) ∙ laid_entry (record_on (g.D.Shelf.parcels b.shelf.now) b.position) b.entries b.runs s.laid c.args.index (omega arith)
+    ap (option_map item_in) (c.entry_in.ensures ∙ ap (λ r. entry_part (decoded r)) (c.record_at.ensures s.shelf_sound)) ∙ laid_entry (record_on (g.D.Shelf.parcels b.shelf.now) b.position) b.entries b.runs s.laid c.args.index (omega arith)

@@ -12,6 +12,6 @@ returns-then-index-self g c s = let b = c.args.self.now in no_run (record_on (g.
 pub returns : goal.returns
 returns g c s =
     let b = c.args.self.now in
-    let sum = c.saturating-add-record.ensures in
+    let sum = c.saturating_add-record.ensures in
     let fits = s.laid.fits in
-    c.run-in.ensures ∙ ap (λ r. run_part (decoded r)) (c.record_at.ensures s.shelf_sound) ∙ laid_run (record_on (g.D.Shelf.parcels b.shelf.now) b.position) b.entries b.runs s.laid c.args.index c.saturating-add-record.result (omega arith) (omega arith)
+    c.run_in.ensures ∙ ap (λ r. run_part (decoded r)) (c.record_at.ensures s.shelf_sound) ∙ laid_run (record_on (g.D.Shelf.parcels b.shelf.now) b.position) b.entries b.runs s.laid c.args.index c.saturating_add-record.result (omega arith) (omega arith)

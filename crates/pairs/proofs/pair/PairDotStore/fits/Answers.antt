@@ -7,7 +7,7 @@ pub returns-then-part-parts : goal.returns-then-part-parts
 returns-then-part-parts g c =
     let ka = g.A.DotStore.kinds in
     let kb = g.B.DotStore.kinds in
-    let n : c.part-count-parts.result ≡ length ka = c.part-count-parts.ensures in
+    let n : c.part_count-parts.result ≡ length ka = c.part_count-parts.ensures in
     c.fits.ensures ∙ ap (λ o. fits_kind o c.args.code) (sym (nth_low ka kb c.args.part g.A.DotStore.parts.few (omega arith)))
 
 pub returns : goal.returns
@@ -15,5 +15,5 @@ returns g c =
     let ka = g.A.DotStore.kinds in
     let kb = g.B.DotStore.kinds in
     let p = c.args.part in
-    let n : c.part-count-parts.result ≡ length ka = c.part-count-parts.ensures in
+    let n : c.part_count-parts.result ≡ length ka = c.part_count-parts.ensures in
     c.fits-2.ensures ∙ ap (λ j. fits_part kb (p - j) c.args.code) n ∙ ap (λ o. fits_kind o c.args.code) (sym (nth_high ka kb p (omega arith) c.if-part-ge-MOST-PARTS.false))

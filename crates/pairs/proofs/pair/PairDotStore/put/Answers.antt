@@ -7,8 +7,8 @@ use Rattle.stores.proofs.Stays.{all_placed, orderly_put}
 use Rattle.pairs.proofs.PairLaws.{stood, stood_low, stood_high, stands_first, stands_second, answer_low, answer_high, after_low, after_high, told, orderly_at}
 use Rattle.pairs.proofs.pair.PairDotStore.put.Goals as goal
 
-pub returns-then-is-some : goal.returns-then-is-some
-returns-then-is-some g c =
+pub returns-then-is_some : goal.returns-then-is_some
+returns-then-is_some g c =
     let ka = g.A.DotStore.kinds in
     let kb = g.B.DotStore.kinds in
     let t = c.args.self.now in
@@ -20,10 +20,10 @@ returns-then-is-some g c =
     let e = c.args.entry in
     let few = g.A.DotStore.parts.few in
     let long = (g.A.DotStore.roomy t.first).even in
-    let right : misfit (paired ka kb) p e ≡ None = sym c.in-default.ensures in
-    let n : c.part-count-parts.result ≡ length ka = c.part-count-parts.ensures in
+    let right : misfit (paired ka kb) p e ≡ None = sym c.in_default.ensures in
+    let n : c.part_count-parts.result ≡ length ka = c.part_count-parts.ensures in
     let here : p < length ka = omega arith in
-    let there : g.B.DotStore.sound t.second → stands e.dot ys ≡ true = λ b. told _ c.find.result e.dot ys c.is-some.result true (c.find.ensures b) c.is-some.ensures c.if-is-some.true in
+    let there : g.B.DotStore.sound t.second → stands e.dot ys ≡ true = λ b. told _ c.find.result e.dot ys c.is_some.result true (c.find.ensures b) c.is_some.ensures c.if-is_some.true in
     record {
       room = refl;
       answer = λ s. let low = all_placed ka xs (g.A.DotStore.orderly t.first s.first).proper in
@@ -46,9 +46,9 @@ returns-then-part-parts g c =
     let e = c.args.entry in
     let few = g.A.DotStore.parts.few in
     let long = (g.A.DotStore.roomy t.first).even in
-    let n : c.part-count-parts.result ≡ length ka = c.part-count-parts.ensures in
+    let n : c.part_count-parts.result ≡ length ka = c.part_count-parts.ensures in
     let here : p < length ka = omega arith in
-    let gone : g.B.DotStore.sound t.second → stands e.dot ys ≡ false = λ b. told _ c.find.result e.dot ys c.is-some.result false (c.find.ensures b) c.is-some.ensures c.if-is-some.false in
+    let gone : g.B.DotStore.sound t.second → stands e.dot ys ≡ false = λ b. told _ c.find.result e.dot ys c.is_some.result false (c.find.ensures b) c.is_some.ensures c.if-is_some.false in
     let room = ap (λ us. paired us cb) c.put.ensures.room in
     let after : g.A.DotStore.sound t.first → g.B.DotStore.sound t.second → both (length ka) (g.A.DotStore.entries c.put.new.self) ys ≡ put_after (paired ka kb) (paired ca cb) (both (length ka) xs ys) p e =
     λ a b. ap (λ us. both (length ka) us ys) (c.put.ensures.after a) ∙ after_low ka kb ca cb xs ys p e few long (all_placed ka xs (g.A.DotStore.orderly t.first a).proper) here (gone b) in
@@ -63,8 +63,8 @@ returns-then-part-parts g c =
       };
     }
 
-pub returns-then-is-some-2 : goal.returns-then-is-some-2
-returns-then-is-some-2 g c =
+pub returns-then-is_some-2 : goal.returns-then-is_some-2
+returns-then-is_some-2 g c =
     let ka = g.A.DotStore.kinds in
     let kb = g.B.DotStore.kinds in
     let t = c.args.self.now in
@@ -76,10 +76,10 @@ returns-then-is-some-2 g c =
     let e = c.args.entry in
     let few = g.A.DotStore.parts.few in
     let long = (g.A.DotStore.roomy t.first).even in
-    let right : misfit (paired ka kb) p e ≡ None = sym c.in-default.ensures in
-    let n : c.part-count-parts.result ≡ length ka = c.part-count-parts.ensures in
+    let right : misfit (paired ka kb) p e ≡ None = sym c.in_default.ensures in
+    let n : c.part_count-parts.result ≡ length ka = c.part_count-parts.ensures in
     let here : length ka ≤ p = omega arith in
-    let there : g.A.DotStore.sound t.first → stands e.dot xs ≡ true = λ a. told _ c.find-2.result e.dot xs c.is-some-2.result true (c.find-2.ensures a) c.is-some-2.ensures c.if-is-some-2.true in
+    let there : g.A.DotStore.sound t.first → stands e.dot xs ≡ true = λ a. told _ c.find-2.result e.dot xs c.is_some-2.result true (c.find-2.ensures a) c.is_some-2.ensures c.if-is_some-2.true in
     record {
       room = refl;
       answer = λ s. let low = all_placed ka xs (g.A.DotStore.orderly t.first s.first).proper in
@@ -102,10 +102,10 @@ returns-in-Ok g c =
     let e = c.args.entry in
     let few = g.A.DotStore.parts.few in
     let long = (g.A.DotStore.roomy t.first).even in
-    let right : misfit (paired ka kb) p e ≡ None = sym c.in-default.ensures in
-    let n : c.part-count-parts.result ≡ length ka = c.part-count-parts.ensures in
+    let right : misfit (paired ka kb) p e ≡ None = sym c.in_default.ensures in
+    let n : c.part_count-parts.result ≡ length ka = c.part_count-parts.ensures in
     let here : length ka ≤ p = omega arith in
-    let gone : g.A.DotStore.sound t.first → stands e.dot xs ≡ false = λ a. told _ c.find-2.result e.dot xs c.is-some-2.result false (c.find-2.ensures a) c.is-some-2.ensures c.if-is-some-2.false in
+    let gone : g.A.DotStore.sound t.first → stands e.dot xs ≡ false = λ a. told _ c.find-2.result e.dot xs c.is_some-2.result false (c.find-2.ensures a) c.is_some-2.ensures c.if-is_some-2.false in
     let room = ap (λ us. paired ca us) c.put-2.ensures.room in
     let after : g.A.DotStore.sound t.first → g.B.DotStore.sound t.second → both (length ka) xs (g.B.DotStore.entries c.put-2.new.self) ≡ put_after (paired ka kb) (paired ca cb) (both (length ka) xs ys) p e =
     λ a b. ap (both (length ka) xs) (c.put-2.ensures.after b ∙ ap (λ j. put_after kb cb ys (p - j) e) n) ∙ after_high ka kb ca cb xs ys p e few long (all_placed ka xs (g.A.DotStore.orderly t.first a).proper) right here (gone a) in
@@ -134,10 +134,10 @@ returns-in-Err g c =
     let e = c.args.entry in
     let few = g.A.DotStore.parts.few in
     let long = (g.A.DotStore.roomy t.first).even in
-    let right : misfit (paired ka kb) p e ≡ None = sym c.in-default.ensures in
-    let n : c.part-count-parts.result ≡ length ka = c.part-count-parts.ensures in
+    let right : misfit (paired ka kb) p e ≡ None = sym c.in_default.ensures in
+    let n : c.part_count-parts.result ≡ length ka = c.part_count-parts.ensures in
     let here : length ka ≤ p = omega arith in
-    let gone : g.A.DotStore.sound t.first → stands e.dot xs ≡ false = λ a. told _ c.find-2.result e.dot xs c.is-some-2.result false (c.find-2.ensures a) c.is-some-2.ensures c.if-is-some-2.false in
+    let gone : g.A.DotStore.sound t.first → stands e.dot xs ≡ false = λ a. told _ c.find-2.result e.dot xs c.is_some-2.result false (c.find-2.ensures a) c.is_some-2.ensures c.if-is_some-2.false in
     let room = ap (λ us. paired ca us) c.put-2.ensures.room in
     let after : g.A.DotStore.sound t.first → g.B.DotStore.sound t.second → both (length ka) xs (g.B.DotStore.entries c.put-2.new.self) ≡ put_after (paired ka kb) (paired ca cb) (both (length ka) xs ys) p e =
     λ a b. ap (both (length ka) xs) (c.put-2.ensures.after b ∙ ap (λ j. put_after kb cb ys (p - j) e) n) ∙ after_high ka kb ca cb xs ys p e few long (all_placed ka xs (g.A.DotStore.orderly t.first a).proper) right here (gone a) in

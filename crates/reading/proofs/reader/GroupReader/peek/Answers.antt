@@ -9,5 +9,5 @@ returns-in-Some-found g c =
     let s = stand_of c.args.self.now in
     let ks = g.S.DotStore.kinds in
     let d = c.decode-found.ensures ∙ ap decoded c.record_at.ensures in
-    let f = c.in-default.ensures ∙ fault_within ks s c.decode-found.result c.if-index-self.false d in
+    let f = c.in_default.ensures ∙ fault_within ks s c.decode-found.result c.if-index-self.false d in
     record { answer = f; found = sym c.in-Some-found.is ∙ found_there s _ c.decode-found.result f d; counts = λ _. search rules }

@@ -31,4 +31,4 @@ loop-fault-preserved g c =
     let p = c.in-Ok.ensures in
     let s = stand_of c.loop-fault.reader in
     subst (SoFar g.S.DotStore.kinds c.args.journal.now) (sym p.after)
-    (so_far_more g.S.DotStore.kinds c.args.journal.now s c.loop-fault.invariant p.answer c.in-Ok.item c.in-default.not-Origin p.found)
+    (so_far_more g.S.DotStore.kinds c.args.journal.now s c.loop-fault.invariant p.answer c.in-Ok.item c.in_default.not-Origin p.found)

@@ -4,4 +4,4 @@ use Rattle.reading.proofs.Seen.{tested}
 use Rattle.reading.proofs.reader.seen.may_have_come.Goals as goal
 
 pub returns : goal.returns
-returns c = tested c.args.seen.now c.bit-of-bit.result ∙ ap (is_set c.args.seen.now) c.bit-of-bit.ensures.same
+returns c = tested c.args.seen.now c.bit_of-bit.result ∙ ap (is_set c.args.seen.now) c.bit_of-bit.ensures.same

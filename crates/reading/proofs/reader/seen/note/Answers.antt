@@ -5,7 +5,7 @@ use Rattle.reading.proofs.reader.seen.note.Goals as goal
 
 pub returns : goal.returns
 returns c =
-    let bit = c.bit-of-bit.result in
-    let low = c.bit-of-bit.ensures.within in
+    let bit = c.bit_of-bit.result in
+    let low = c.bit_of-bit.ensures.within in
     let within : bit / 8 < length c.args.seen.now = omega arith in
-    record { set = ap (is_set _) (sym c.bit-of-bit.ensures.same) ∙ note_sets c.args.seen.now bit within; kept = note_keeps c.args.seen.now bit within }
+    record { set = ap (is_set _) (sym c.bit_of-bit.ensures.same) ∙ note_sets c.args.seen.now bit within; kept = note_keeps c.args.seen.now bit within }

@@ -12,12 +12,12 @@ returns c =
     let h : length t.bytes.now < 2 ^ 64 = search rules in
     let k : length t.lengths ≡ 128 = search rules in
     let used = c.total-held.result / 24 in
-    let took : SoundRing t.bytes.now t.start t.lengths t.count → RingTook t.bytes.now c.write-in.new.bytes t.start t.lengths t.count c.args.parcel.now =
-    λ s. ring_took t.bytes.now c.write-in.new.bytes t.start t.lengths t.count c.args.parcel.now used s k
+    let took : SoundRing t.bytes.now t.start t.lengths t.count → RingTook t.bytes.now c.write_in.new.bytes t.start t.lengths t.count c.args.parcel.now =
+    λ s. ring_took t.bytes.now c.write_in.new.bytes t.start t.lengths t.count c.args.parcel.now used s k
     (ring_used t.bytes.now t.start t.lengths t.count used s h (ap (λ n. n / 24) c.total-held.ensures))
-    (sym c.in-default.ensures) c.write-in.ensures in
+    (sym c.in_default.ensures) c.write_in.ensures in
     record {
-      sizes = ap ring_sizes c.write-in.auto.bytes;
+      sizes = ap ring_sizes c.write_in.auto.bytes;
       answer = λ s. sym (took s).answer;
       after = λ s. (took s).parcels;
       spare = λ s. (took s).spare;

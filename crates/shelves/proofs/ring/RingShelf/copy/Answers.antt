@@ -12,6 +12,6 @@ returns c =
     let m = c.args.memory.now in
     let f = byte t.bytes.now (ring_room (length t.bytes.now)) t.start in
     record {
-      answer = λ s. c.copy-parcel.ensures.answer ∙ ap (λ o. copy_answer o c.args.position (length m)) (c.place-of-place.ensures.parcel f s.listed (omega (arith, ring_fits t.bytes.now t.start t.lengths t.count s)));
-      memory = λ s. c.copy-parcel.ensures.memory ∙ ap (λ o. copy_memory o m) (c.place-of-place.ensures.parcel f s.listed (omega (arith, ring_fits t.bytes.now t.start t.lengths t.count s)));
+      answer = λ s. c.copy_parcel.ensures.answer ∙ ap (λ o. copy_answer o c.args.position (length m)) (c.place_of-place.ensures.parcel f s.listed (omega (arith, ring_fits t.bytes.now t.start t.lengths t.count s)));
+      memory = λ s. c.copy_parcel.ensures.memory ∙ ap (λ o. copy_memory o m) (c.place_of-place.ensures.parcel f s.listed (omega (arith, ring_fits t.bytes.now t.start t.lengths t.count s)));
     }

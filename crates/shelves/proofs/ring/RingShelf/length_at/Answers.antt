@@ -10,4 +10,4 @@ returns c s =
     let t = c.args.self.now in
     let h : length t.bytes.now < 2 ^ 64 = search rules in
     let f = byte t.bytes.now (ring_room (length t.bytes.now)) t.start in
-    c.extent-length.ensures f ∙ ap length_of (c.place-of.ensures.parcel f s.listed (omega (arith, ring_fits t.bytes.now t.start t.lengths t.count s)))
+    c.extent_length.ensures f ∙ ap length_of (c.place_of.ensures.parcel f s.listed (omega (arith, ring_fits t.bytes.now t.start t.lengths t.count s)))

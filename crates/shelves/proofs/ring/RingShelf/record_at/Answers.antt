@@ -10,4 +10,4 @@ returns c s =
     let t = c.args.self.now in
     let h : length t.bytes.now < 2 ^ 64 = search rules in
     let f = byte t.bytes.now (ring_room (length t.bytes.now)) t.start in
-    c.read-record.ensures ∙ ap (λ o. record_of o c.args.index) (c.place-of-place.ensures.parcel f s.listed (omega (arith, ring_fits t.bytes.now t.start t.lengths t.count s)))
+    c.read_record.ensures ∙ ap (λ o. record_of o c.args.index) (c.place_of-place.ensures.parcel f s.listed (omega (arith, ring_fits t.bytes.now t.start t.lengths t.count s)))

@@ -16,14 +16,14 @@ returns c =
     let used = c.total-held.result / 24 in
     let news = c.args.parcel.now in
     let none : misfit (slot_sizes n t.size) t.count used (length news) ≡ None =
-    sym (c.in-default.ensures ∙ same_misfit n t.size c.count-of-most.result c.records-of.result c.room-of.result t.count used (length news) c.count-of-most.ensures c.records-of.ensures c.room-of.ensures) in
-    let took : SoundSlots t.bytes.now t.size t.starts t.lengths t.count → SlotsTook t.bytes.now c.write-in.new.bytes t.size t.starts t.lengths t.count news =
+    sym (c.in_default.ensures ∙ same_misfit n t.size c.count_of-most.result c.records_of.result c.room_of.result t.count used (length news) c.count_of-most.ensures c.records_of.ensures c.room_of.ensures) in
+    let took : SoundSlots t.bytes.now t.size t.starts t.lengths t.count → SlotsTook t.bytes.now c.write_in.new.bytes t.size t.starts t.lengths t.count news =
     λ s. let few = slots_few t.bytes.now t.size t.starts t.lengths t.count s in
-    slots_took t.bytes.now c.write-in.new.bytes t.size t.starts t.lengths t.count news used s k
+    slots_took t.bytes.now c.write_in.new.bytes t.size t.starts t.lengths t.count news used s k
     (slots_used t.bytes.now t.size t.starts t.lengths t.count used s (omega arith) h (ap (λ m. m / 24) c.total-held.ensures))
-    none c.write-in.ensures in
+    none c.write_in.ensures in
     record {
-      sizes = ap (λ m. slot_sizes m t.size) c.write-in.auto.bytes;
+      sizes = ap (λ m. slot_sizes m t.size) c.write_in.auto.bytes;
       answer = λ s. sym (took s).answer;
       after = λ s. (took s).parcels;
       spare = λ s. (took s).spare;
@@ -41,7 +41,7 @@ returns-in-Some c =
     let ps = slot_parcels t.bytes.now t.starts t.lengths t.count in
     let some : SoundSlots t.bytes.now t.size t.starts t.lengths t.count → Some (shelf_fault c.in-Some.fault) ≡ misfit (slot_sizes n t.size) (length ps) (held ps) (length news) =
     λ s. let few = slots_few t.bytes.now t.size t.starts t.lengths t.count s in
-    c.in-Some.ensures ∙ same_misfit n t.size c.count-of-most.result c.records-of.result c.room-of.result t.count used (length news) c.count-of-most.ensures c.records-of.ensures c.room-of.ensures
+    c.in-Some.ensures ∙ same_misfit n t.size c.count_of-most.result c.records_of.result c.room_of.result t.count used (length news) c.count_of-most.ensures c.records_of.ensures c.room_of.ensures
     ∙ slots_refusal t.bytes.now t.size t.starts t.lengths t.count used (length news)
     (slots_used t.bytes.now t.size t.starts t.lengths t.count used s (omega arith) h (ap (λ m. m / 24) c.total-held.ensures)) in
     record {
@@ -62,7 +62,7 @@ returns-then-parcel-from c =
     let news = c.args.parcel.now in
     let never : SoundSlots t.bytes.now t.size t.starts t.lengths t.count → ⊥ = λ s.
     let fits = misfit_none (slot_sizes n t.size) t.count used (length news)
-    (sym (c.in-default.ensures ∙ same_misfit n t.size c.count-of-most.result c.records-of.result c.room-of.result t.count used (length news) c.count-of-most.ensures c.records-of.ensures c.room-of.ensures)) in
+    (sym (c.in_default.ensures ∙ same_misfit n t.size c.count_of-most.result c.records_of.result c.room_of.result t.count used (length news) c.count_of-most.ensures c.records_of.ensures c.room_of.ensures)) in
     let whole = (whole_parts (length news) fits.whole).1 in
     let shorter : length news / 24 ≤ slot_size t.size = fits.shorter in
     let end : get_or t.starts t.count 0 + 24 * slot_size t.size ≤ slot_room n t.size = s.slots.inside t.count fits.fewer in

@@ -15,8 +15,8 @@ returns c =
     let m = c.args.memory.now in
     let few : SoundSlots t.bytes.now t.size t.starts t.lengths t.count → t.count ≤ 128 = λ s. let l = slots_few t.bytes.now t.size t.starts t.lengths t.count s in omega arith in
     record {
-      answer = λ s. let k = few s in c.copy-parcel.ensures.answer ∙ ap (λ o. copy_answer o c.args.position (length m))
-          (c.slot-of-place.ensures f (omega arith) (omega arith) (λ l. omega (arith, slots_reach t.bytes.now t.size t.starts t.lengths t.count c.args.position s l)));
-      memory = λ s. let k = few s in c.copy-parcel.ensures.memory ∙ ap (λ o. copy_memory o m)
-          (c.slot-of-place.ensures f (omega arith) (omega arith) (λ l. omega (arith, slots_reach t.bytes.now t.size t.starts t.lengths t.count c.args.position s l)));
+      answer = λ s. let k = few s in c.copy_parcel.ensures.answer ∙ ap (λ o. copy_answer o c.args.position (length m))
+          (c.slot_of-place.ensures f (omega arith) (omega arith) (λ l. omega (arith, slots_reach t.bytes.now t.size t.starts t.lengths t.count c.args.position s l)));
+      memory = λ s. let k = few s in c.copy_parcel.ensures.memory ∙ ap (λ o. copy_memory o m)
+          (c.slot_of-place.ensures f (omega arith) (omega arith) (λ l. omega (arith, slots_reach t.bytes.now t.size t.starts t.lengths t.count c.args.position s l)));
     }

@@ -13,4 +13,4 @@ returns c s =
     let b : length t.lengths ≡ 128 = search rules in
     let f = byte t.bytes.now (length t.bytes.now) 0 in
     let few = slots_few t.bytes.now t.size t.starts t.lengths t.count s in
-    c.extent-length.ensures f ∙ ap length_of (c.slot-of.ensures f (omega arith) (omega arith) (λ l. omega (arith, slots_reach t.bytes.now t.size t.starts t.lengths t.count c.args.position s l)))
+    c.extent_length.ensures f ∙ ap length_of (c.slot_of.ensures f (omega arith) (omega arith) (λ l. omega (arith, slots_reach t.bytes.now t.size t.starts t.lengths t.count c.args.position s l)))

@@ -13,4 +13,4 @@ returns c s =
     let b : length t.lengths ≡ 128 = search rules in
     let f = byte t.bytes.now (length t.bytes.now) 0 in
     let few = slots_few t.bytes.now t.size t.starts t.lengths t.count s in
-    c.read-record.ensures ∙ ap (λ o. record_of o c.args.index) (c.slot-of-place.ensures f (omega arith) (omega arith) (λ l. omega (arith, slots_reach t.bytes.now t.size t.starts t.lengths t.count c.args.position s l)))
+    c.read_record.ensures ∙ ap (λ o. record_of o c.args.index) (c.slot_of-place.ensures f (omega arith) (omega arith) (λ l. omega (arith, slots_reach t.bytes.now t.size t.starts t.lengths t.count c.args.position s l)))

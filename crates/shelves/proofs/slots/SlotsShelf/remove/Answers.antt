@@ -8,9 +8,9 @@ use Rattle.shelves.proofs.slots.SlotsShelf.remove.Goals as goal
 pub returns : goal.returns
 returns c =
     let t = c.args.self.now in
-    let gave : SoundSlots t.bytes.now t.size t.starts t.lengths t.count → SlotsGave t.bytes.now t.size t.starts t.lengths c.send-back.new.numbers c.send-back-2.new.numbers t.count c.args.position =
-    λ s. slots_gave t.bytes.now t.size t.starts t.lengths c.send-back.new.numbers c.send-back-2.new.numbers t.count c.args.position s c.if-position-count.false
-    c.send-back.ensures c.send-back-2.ensures in
+    let gave : SoundSlots t.bytes.now t.size t.starts t.lengths t.count → SlotsGave t.bytes.now t.size t.starts t.lengths c.send_back.new.numbers c.send_back-2.new.numbers t.count c.args.position =
+    λ s. slots_gave t.bytes.now t.size t.starts t.lengths c.send_back.new.numbers c.send_back-2.new.numbers t.count c.args.position s c.if-position-count.false
+    c.send_back.ensures c.send_back-2.ensures in
     record {
       sizes = refl;
       answer = λ s. sym (gave s).answer;

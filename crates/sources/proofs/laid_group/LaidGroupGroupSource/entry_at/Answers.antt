@@ -12,5 +12,5 @@ returns-then-index-self g c s = let b = c.args.self.now in no_entry (record_in (
 pub returns : goal.returns
 returns g c s =
     let b = c.args.self.now in
-    ap (option_map item_in) (c.entry-in.ensures ∙ ap (λ r. entry_part (decoded r)) (c.nth-record.ensures s.list_sound))
+    ap (option_map item_in) (c.entry_in.ensures ∙ ap (λ r. entry_part (decoded r)) (c.nth_record.ensures s.list_sound))
     ∙ laid_entry (record_in (g.R.RecordList.bytes b.records)) b.entries b.runs s.laid c.args.index (omega arith)

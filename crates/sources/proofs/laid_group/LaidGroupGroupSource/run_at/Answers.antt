@@ -13,9 +13,9 @@ pub returns : goal.returns
 returns g c s =
     let b = c.args.self.now in
     let f = record_in (g.R.RecordList.bytes b.records) in
-    let sum = c.saturating-add-number.ensures in
+    let sum = c.saturating_add-number.ensures in
     let e = laid_entries f b.entries b.runs s.laid in
     let n = laid_runs f b.entries b.runs s.laid in
     let fits = s.laid.readable.countable in
-    c.run-in.ensures ∙ ap (λ r. run_part (decoded r)) (c.nth-record.ensures s.list_sound)
-    ∙ laid_run f b.entries b.runs s.laid c.args.index c.saturating-add-number.result (omega arith) (omega arith)
+    c.run_in.ensures ∙ ap (λ r. run_part (decoded r)) (c.nth_record.ensures s.list_sound)
+    ∙ laid_run f b.entries b.runs s.laid c.args.index c.saturating_add-number.result (omega arith) (omega arith)

@@ -14,5 +14,5 @@ returns g c s =
     let t = c.args.self.now in
     let rows = t.rows.now in
     let z : t.len - 0 ≡ t.len = omega arith in
-    entry_here g.K.Kind.code (take t.len rows) c.args.part c.args.position c.if-part-ne0.false c.row-at.result
-    (c.row-at.ensures ∙ ap (λ n. slice_get (items g.K.Kind.code (take n rows)) c.args.position) z)
+    entry_here g.K.Kind.code (take t.len rows) c.args.part c.args.position c.if-part-ne0.false c.row_at.result
+    (c.row_at.ensures ∙ ap (λ n. slice_get (items g.K.Kind.code (take n rows)) c.args.position) z)

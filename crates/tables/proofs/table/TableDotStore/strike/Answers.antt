@@ -9,11 +9,11 @@ returns-then-self g c =
     let k = g.K.Kind.kind in
     let t = c.args.self.now in
     let rows = t.rows.now in
-    let n = c.strike-row-left.auto.rows in
+    let n = c.strike_row-left.auto.rows in
     record {
       room = ap (λ n. usable n ∷ []) n;
-      after = λ s. (c.strike-row-left.ensures s.orderly.apart).held;
-      stays = λ s. let h = c.strike-row-left.ensures s.orderly.apart in
+      after = λ s. (c.strike_row-left.ensures s.orderly.apart).held;
+      stays = λ s. let h = c.strike_row-left.ensures s.orderly.apart in
           record {
             within = h.within;
             orderly = rows_orderly k (length rows) _ n _ _ h.held (orderly_strike (k ∷ []) (usable (length rows) ∷ []) c.args.dot (items g.K.Kind.code (take t.len rows)) s.orderly);

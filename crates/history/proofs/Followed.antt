@@ -1,6 +1,6 @@
 -- Ship, deliver and edit on what is shown of the machine, as the machine does them.
 use Rattle.std.proofs.Common.{◌≡◌, ℕ, ◌+◌, ◌-◌, ◌≤◌, true, cond, ◌||◌, eqb, ltb, leb, List, [], ◌∷◌, ◌++◌, map, length, drop, Some, None, Option, sym, refl, ap, ◌∙◌, subst, ap₂, inl, inr, arith, length-drop}
-use Rattle.std.proofs.lemmas.List.{drop_map}
+use Rattle.std.proofs.lemmas.List.{drop-map}
 use Rattle.std.proofs.lemmas.Bool.{and_from, le-leb}
 use Rattle.refusals.specs.declared.Refusal.{Refusal}
 use Rattle.shelves.specs.Parcels.{append_refusal}
@@ -59,9 +59,9 @@ module _ (z : Setting) (all : Edits) (sane : Sane z.kinds all) where
     kept_groups k =
         let a = kept_count in
         let b = o.limit in
-        sym (drop_map (kept_group z.kinds) k (kept_bytes z r x.forgotten x.kept))
+        sym (drop-map (kept_group z.kinds) k (kept_bytes z r x.forgotten x.kept))
         ∙ ap (drop k) (kept_read r x.forgotten x.kept checked (omega arith) kept_part)
-        ∙ drop_map (book z) k x.kept
+        ∙ drop-map (book z) k x.kept
 
     pub grown_shown : (d : Edits) (h : List ℕ) → book z (x.seen ++ d) ≡ joined z.kinds (book z x.seen) (book z d) → stepped z.kinds (shown z r x) (book z d) h ≡ shown z r (grown x d h)
     grown_shown d h e = λ i. record {

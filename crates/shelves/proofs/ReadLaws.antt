@@ -3,7 +3,7 @@ use Rattle.std.proofs.Common.{◌≡◌, ℕ, zero, suc, ◌+◌, ◌-◌, ◌*�
 use Rattle.std.specs.List.{range_with_len}
 use Rattle.refusals.specs.Table.{refused}
 use Rattle.shelves.specs.Parcels.{copy_answer, copy_memory}
-use Rattle.std.proofs.lemmas.List.{append-nil, drop_map, take_map}
+use Rattle.std.proofs.lemmas.List.{append-nil, drop-map, take-map}
 use Rattle.std.proofs.lemmas.List.FromFn.{take-map-range_with_len, length-map-range_with_len}
 use Rattle.std.proofs.lemmas.Bool.{cond-true, cond-false, lt-ltb, le-ltb, le-leb, lt-leb}
 
@@ -16,7 +16,7 @@ drop_counting (suc k) from (suc n) =
     drop_counting k (from + 1) n ∙ ap (λ x. range_with_len x (n - k)) a ∙ ap (range_with_len (from + suc k)) b
 
 pub drop_map_counting : (f : ℕ → ℕ) (k from n : ℕ) → drop k (map f (range_with_len from n)) ≡ map f (range_with_len (from + k) (n - k))
-drop_map_counting f k from n = drop_map f k (range_with_len from n) ∙ ap (map f) (drop_counting k from n)
+drop_map_counting f k from n = drop-map f k (range_with_len from n) ∙ ap (map f) (drop_counting k from n)
 
 -- the record that is there
 pub record_there : (f : ℕ → ℕ) (from n index : ℕ) → index < n / 24

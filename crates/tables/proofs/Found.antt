@@ -2,7 +2,7 @@
 use Rattle.std.proofs.Common.{◌≡◌, ℕ, zero, suc, ◌+◌, ◌<◌, ◌≤◌, Bool, true, false, cond, not, List, [], ◌∷◌, ◌++◌, map, length, get_or, take, drop, set, sym, refl, ap, ◌∙◌, ap₂, inl, inr, arith}
 use Rattle.std.specs.List.{insert, remove, AllByRecursion as All}
 use Rattle.std.proofs.lemmas.Bool.{cases_Bool, cond-true, cond-false, or_left, or_right}
-use Rattle.std.proofs.lemmas.List.{map-append, take_map, drop_map}
+use Rattle.std.proofs.lemmas.List.{map-append, take-map, drop-map}
 use Rattle.causal.specs.declared.dots.Dot.{Dot}
 use Rattle.kinds.specs.Kinds.{ValueKind}
 use Rattle.stores.specs.Items.{Item, has_dot, stands, merge, merge_dot, Apart, insert_item, precedes, strike_items}
@@ -19,10 +19,10 @@ adjust_set f zero (x ∷ xs) d h = refl
 adjust_set f (suc n) (x ∷ xs) d h = ap (λ ys. x ∷ ys) (adjust_set f n xs d (omega arith))
 
 pub map_inserted : {X Y : Type 0} (f : X → Y) (xs : List X) (n : ℕ) (x : X) → map f (insert xs n x) ≡ insert (map f xs) n (f x)
-map_inserted f xs n x = map-append f (take n xs) (x ∷ drop n xs) ∙ ap₂ (λ ls bs. ls ++ (f x ∷ bs)) (sym (take_map f n xs)) (sym (drop_map f n xs))
+map_inserted f xs n x = map-append f (take n xs) (x ∷ drop n xs) ∙ ap₂ (λ ls bs. ls ++ (f x ∷ bs)) (sym (take-map f n xs)) (sym (drop-map f n xs))
 
 pub map_removed : {X Y : Type 0} (f : X → Y) (xs : List X) (n : ℕ) → map f (remove xs n) ≡ remove (map f xs) n
-map_removed f xs n = map-append f (take n xs) (drop (suc n) xs) ∙ ap₂ (λ ls bs. ls ++ bs) (sym (take_map f n xs)) (sym (drop_map f (suc n) xs))
+map_removed f xs n = map-append f (take n xs) (drop (suc n) xs) ∙ ap₂ (λ ls bs. ls ++ bs) (sym (take-map f n xs)) (sym (drop-map f (suc n) xs))
 
 pub seen : (d : Dot) (xs : List Item) → lead (lacks d) xs < length xs → stands d xs ≡ true
 seen d [] h = absurd (omega arith)

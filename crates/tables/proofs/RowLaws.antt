@@ -3,7 +3,7 @@ use Rattle.std.proofs.Common.{◌≡◌, ℕ, zero, suc, ◌+◌, ◌-◌, ◌<�
 use Rattle.std.specs.List.{insert, remove, AllByRecursion as All}
 use Rattle.std.proofs.lemmas.Bool.{cond-true, cond-false, cases_Bool, both_ways}
 use Rattle.stores.proofs.ItemOrder.{precedes_transitive}
-use Rattle.std.proofs.lemmas.List.{map-set, get_or-map, set-get_or, take_map, length-map, length-take-le}
+use Rattle.std.proofs.lemmas.List.{map-set, get_or-map, set-get_or, take-map, length-map, length-take-le}
 use Rattle.causal.specs.declared.dots.Dot.{Dot}
 use Rattle.causal.specs.Places.{same_place}
 use Rattle.kinds.specs.Kinds.{ValueKind}
@@ -103,8 +103,8 @@ module _ {V : Type 0} (coded : V → ℕ) (k : ValueKind) where
         let x = f row in
         let xs = items coded (take len rows) in
         let m = sought row.dot (take len rows) n is in
-        sym (take_map f len after) ∙ ap (take len) e ∙ take_adjust (merge k x) n len (items coded rows) h
-        ∙ ap (adjust (merge k x) n) (take_map f len rows) ∙ ap (λ j. adjust (merge k x) j xs) m
+        sym (take-map f len after) ∙ ap (take len) e ∙ take_adjust (merge k x) n len (items coded rows) h
+        ∙ ap (adjust (merge k x) n) (take-map f len rows) ∙ ap (λ j. adjust (merge k x) j xs) m
         ∙ merge_found k x xs a (omega (arith, used rows len within, m))
         ∙ sym (cond-true (stands row.dot xs) (map (merge_dot k x) xs) (insert_item x xs) (found_stands rows len row.dot n within is h))
 

@@ -69,7 +69,7 @@ def main(argv):
             w = m[0]
             if "-" not in w or (w in stay and not HEADS.match(w)):
                 return w
-            return join(w, names)
+            return "+".join(join(part, names) for part in w.split("+"))
 
         out = WORD.sub(turn, text)
         if out != text:

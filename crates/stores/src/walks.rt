@@ -8,7 +8,7 @@ use causal::places::Place;
 
 // How many entries the store holds, in all its parts.
 pub fn count_all<S: DotStore>(store: &S) -> usize
-    ensures { sound store.now → result ≡ length (entries store.now) }
+    ensures { S.DotStore.sound store.now → result ≡ length (S.DotStore.entries store.now) }
 {
     let mut all: usize = 0;
     for part in 0..S::part_count() {
@@ -19,7 +19,7 @@ pub fn count_all<S: DotStore>(store: &S) -> usize
 
 // How many entries of the part stand under the place.
 pub fn count_under<S: DotStore>(store: &S, part: usize, place: Place) -> usize
-    ensures { sound store.now → result ≡ count_under part place (entries store.now) }
+    ensures { S.DotStore.sound store.now → result ≡ count_under part place (S.DotStore.entries store.now) }
 {
     let mut under: usize = 0;
     for i in 0..store.count(part) {

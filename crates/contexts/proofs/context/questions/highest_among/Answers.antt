@@ -6,8 +6,8 @@ use Rattle.contexts.proofs.context.questions.highest_among.Goals.{then-run-repli
 
 pub loop-run-preserved : goal.loop-run-preserved
 loop-run-preserved c =
-    let same = highest_same c.args.replica c.args.runs.now c.loop-run.run_index c.loop-run-test.true in
-    let other = highest_other c.args.replica c.args.runs.now c.loop-run.run_index c.loop-run-test.true in
+    let same = highest_same c.args.replica c.args.runs.now c.loop-run.run-index c.loop-run-test.true in
+    let other = highest_other c.args.replica c.args.runs.now c.loop-run.run-index c.loop-run-test.true in
     elim c.if-run-replica.branch [
       | then-run-replica+then-run-best w ↦ omega (arith, w.best-is, same w.if-run-replica.true, w.if-run-best.true, c.loop-run.invariant)
       | else-run-replica w ↦ elim w.else-run-replica.branch [
@@ -17,4 +17,4 @@ loop-run-preserved c =
     ]
 
 pub returns : goal.returns
-returns c = omega (arith, highest_none c.args.replica c.args.runs.now c.loop-run.run_index c.loop-run-test.false, c.loop-run.invariant)
+returns c = omega (arith, highest_none c.args.replica c.args.runs.now c.loop-run.run-index c.loop-run-test.false, c.loop-run.invariant)

@@ -16,7 +16,7 @@ HEADS = re.compile(r"^(returns|loop|if|then|else|in|not|overflow|invariant|decre
 def source_names(root):
     found = set(OWN)
     for path in glob.glob(os.path.join(root, "crates", "*", "src", "**", "*.rt"), recursive=True):
-        found |= set(re.findall(r"\b[a-z][a-z0-9]*(?:_[a-z0-9]+)+\b", open(path, encoding="utf-8").read()))
+        found |= set(re.findall(r"\b(?:[a-z][a-z0-9]*(?:_[a-z0-9]+)+|[A-Z][A-Z0-9]*(?:_[A-Z0-9]+)+)\b", open(path, encoding="utf-8").read()))
     return found
 
 

@@ -23,7 +23,7 @@ impl<'a, K: Kind> Table<'a, K> {
     pub fn new(rows: &'a mut [Entry<K>]) -> Self
         ensures empty { result.len ≡ 0 }
         ensures rows { result.rows.now ≡ rows.old }
-        ensures sound { SoundRows kind code result.len result.rows.now }
+        ensures sound { SoundRows K.Kind.kind K.Kind.code result.len result.rows.now }
     {
         Table { rows, len: 0 }
     }

@@ -25,7 +25,7 @@ pub fn usable_rows(rows: usize) -> usize
 
 // The row at `at`, with its value as a code.
 pub fn row_at<K: Kind>(rows: &[Entry<K>], at: usize) -> Option<Entry<u64>>
-    ensures { option_map (item_at 0) result ≡ slice_get (items code rows.now) at }
+    ensures { option_map (item_at 0) result ≡ slice_get (items K.Kind.code rows.now) at }
 {
     if at >= rows.len() {
         return None;
@@ -40,7 +40,7 @@ pub fn row_at<K: Kind>(rows: &[Entry<K>], at: usize) -> Option<Entry<u64>>
 
 // The row with the dot.
 pub fn find_row<K: Kind>(rows: &[Entry<K>], dot: Dot) -> Option<Entry<u64>>
-    ensures { option_map (item_at 0) result ≡ find dot (items code rows.now) }
+    ensures { option_map (item_at 0) result ≡ find dot (items K.Kind.code rows.now) }
 {
     let at = seek(rows, dot);
     row_at(rows, at)
@@ -49,7 +49,7 @@ pub fn find_row<K: Kind>(rows: &[Entry<K>], dot: Dot) -> Option<Entry<u64>>
 // Joins the value of `row` to that of the row at `at`, if both have one place. The other rows stay.
 pub fn join_at<K: Kind>(rows: &mut [Entry<K>], at: usize, row: Entry<K>)
     requires { at < length rows.old }
-    ensures joined { items code rows.new ≡ adjust (merge kind (item_of code 0 row)) at (items code rows.old) }
+    ensures joined { items K.Kind.code rows.new ≡ adjust (merge K.Kind.kind (item_of K.Kind.code 0 row)) at (items K.Kind.code rows.old) }
     ensures rest { drop (at + 1) rows.new ≡ drop (at + 1) rows.old }
 {
     let old = rows[at];
@@ -66,9 +66,9 @@ pub fn join_at<K: Kind>(rows: &mut [Entry<K>], at: usize, row: Entry<K>)
 // Puts the row in, and answers how many are then in use; none where there is no room.
 pub fn put_row<K: Kind>(rows: &mut [Entry<K>], len: usize, row: Entry<K>) -> Option<usize>
     requires { len ≤ length rows.old }
-    ensures { Ascends (items code (take len rows.old)) → Apart (items code (take len rows.old)) → MatchOption result
-        (RowRefused code len row rows.old rows.new)
-        (RowPut code len kind row rows.old rows.new) }
+    ensures { Ascends (items K.Kind.code (take len rows.old)) → Apart (items K.Kind.code (take len rows.old)) → MatchOption result
+        (RowRefused K.Kind.code len row rows.old rows.new)
+        (RowPut K.Kind.code len K.Kind.kind row rows.old rows.new) }
 {
     let all: &[Entry<K>] = rows;
     let found = seek(&all[0..len], row.dot);
@@ -88,7 +88,7 @@ pub fn put_row<K: Kind>(rows: &mut [Entry<K>], len: usize, row: Entry<K>) -> Opt
 // Takes the row with the dot out, and answers how many are then in use.
 pub fn strike_row<K: Kind>(rows: &mut [Entry<K>], len: usize, dot: Dot) -> usize
     requires { len ≤ length rows.old }
-    ensures { Apart (items code (take len rows.old)) → RowStruck code len dot rows.old rows.new result }
+    ensures { Apart (items K.Kind.code (take len rows.old)) → RowStruck K.Kind.code len dot rows.old rows.new result }
 {
     let all: &[Entry<K>] = rows;
     let found = seek(&all[0..len], dot);

@@ -10,9 +10,9 @@ returns-then-part-parts g c =
     let n : c.part_count-parts.result ≡ length ka = c.part_count-parts.ensures in
     c.misfit.ensures ∙ ap (λ o. misfit_of o c.args.entry) (sym (nth_low ka kb c.args.part g.A.DotStore.parts.few (omega arith)))
 
-pub returns-then-part-ge-MOST-PARTS : goal.returns-then-part-ge-MOST-PARTS
-returns-then-part-ge-MOST-PARTS g c =
-    sym (ap (λ o. misfit_of o c.args.entry) (nth_none g.A.DotStore.kinds g.B.DotStore.kinds c.args.part c.if-part-ge-MOST-PARTS.true))
+pub returns-then-part-ge-MOST_PARTS : goal.returns-then-part-ge-MOST_PARTS
+returns-then-part-ge-MOST_PARTS g c =
+    sym (ap (λ o. misfit_of o c.args.entry) (nth_none g.A.DotStore.kinds g.B.DotStore.kinds c.args.part c.if-part-ge-MOST_PARTS.true))
 
 pub returns : goal.returns
 returns g c =
@@ -20,4 +20,4 @@ returns g c =
     let kb = g.B.DotStore.kinds in
     let p = c.args.part in
     let n : c.part_count-parts.result ≡ length ka = c.part_count-parts.ensures in
-    c.misfit-2.ensures ∙ ap (λ j. misfit kb (p - j) c.args.entry) n ∙ ap (λ o. misfit_of o c.args.entry) (sym (nth_high ka kb p (omega arith) c.if-part-ge-MOST-PARTS.false))
+    c.misfit-2.ensures ∙ ap (λ j. misfit kb (p - j) c.args.entry) n ∙ ap (λ o. misfit_of o c.args.entry) (sym (nth_high ka kb p (omega arith) c.if-part-ge-MOST_PARTS.false))

@@ -20,4 +20,4 @@ returns g c =
     let cb = g.B.DotStore.capacities t.second in
     let n : c.part_count-parts.result ≡ length ka = c.part_count-parts.ensures in
     let even = (g.A.DotStore.roomy t.first).even in
-    c.capacity-2.ensures ∙ ap (λ j. get_or cb (p - j) 0) n ∙ sym (room_high ca cb p (length ka) even (omega arith) c.if-part-ge-MOST-PARTS.false)
+    c.capacity-2.ensures ∙ ap (λ j. get_or cb (p - j) 0) n ∙ sym (room_high ca cb p (length ka) even (omega arith) c.if-part-ge-MOST_PARTS.false)

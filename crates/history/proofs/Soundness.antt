@@ -240,7 +240,7 @@ module _ (ks : List ValueKind) (x : Replica) (s : SoundReplica ks x) where
       unpacked_sound parcel small (faulty f) e = s
       unpacked_sound parcel small (complete g o n) e =
           let q = alone_complete (length parcel / 24) (first_group ks parcel) g o n e in
-          by_verdict g o (λ v. SoundReplica ks (settled ks x link position parcel memory g o v).after.0) (λ f. s) s (λ a. fresh_sound g o (one.formed parcel g o n q) (one.writable parcel g o n small q) a)
+          by_verdict g o (λ v. SoundReplica ks (settled ks x link position parcel memory g o v).after.0) (λ f. s) s (λ a. fresh_sound g o (one.formed parcel g o n small q) (one.writable parcel g o n small q) a)
 
       delivered_sound : (q : Option (List ℕ)) → ((parcel : List ℕ) → q ≡ Some parcel → Bytes parcel) → SoundReplica ks (delivered ks x link position memory q).after.0
       delivered_sound None h = s
@@ -253,7 +253,7 @@ module _ (ks : List ValueKind) (x : Replica) (s : SoundReplica ks x) where
     looked_sound journal memory small (complete g o n) e =
         let first = take (24 * n) journal in
         unless_cases (room_fault first memory) (refuse x memory []) (absorbs ks x first memory g o (verdict ks x g o)) (λ (t : Turn Replica). SoundReplica ks t.after) (λ f e. s)
-        (λ _. by_verdict g o (λ v. SoundReplica ks (absorbs ks x first memory g o v).after) (λ f. s) s (λ a. fresh_sound g o (one.formed journal g o n e) (one.writable journal g o n small e) a))
+        (λ _. by_verdict g o (λ v. SoundReplica ks (absorbs ks x first memory g o v).after) (λ f. s) s (λ a. fresh_sound g o (one.formed journal g o n small e) (one.writable journal g o n small e) a))
 
   forget_sound : (t : ℕ) → SoundReplica ks (forget x t).after
   forget_sound t =

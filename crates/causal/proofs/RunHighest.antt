@@ -1,10 +1,9 @@
-use Rattle.std.proofs.Common.{◌≡◌, ℕ, ◌+◌, ◌<◌, ◌≤◌, min, max, Bool, true, false, cond, not, ◌&&◌, ◌||◌, eqb, ltb, leb, ◌⊎◌, List, [], ◌∷◌, sym, refl, ap, ◌∙◌, ap₂, inl, inr, ⊎_elim, arith}
+use Rattle.std.proofs.Common.{◌≡◌, ℕ, ◌+◌, ◌<◌, ◌≤◌, max, true, false, ◌||◌, eqb, ◌⊎◌, List, [], ◌∷◌, sym, ◌∙◌, inl, inr, ⊎_elim, arith}
 use Rattle.std.proofs.lemmas.Bool.Decides.{nat_tests}
 use Rattle.std.proofs.lemmas.Bool.{cond_both, or_cases, or_left, or_right, false≢true, cases_lt, cases_Bool}
-use Rattle.causal.specs.declared.dots.Dot.{Dot}
 use Rattle.causal.specs.declared.runs.Run.{Run}
-use Rattle.causal.specs.Runs.{in_run, has, before, hull, insert, union, highest, dot}
-use Rattle.causal.proofs.RunFacts.{Sound, Ahead, Canonical}
+use Rattle.causal.specs.Runs.{in_run, has, before, hull, union, highest, dot}
+use Rattle.causal.proofs.RunFacts.{Canonical}
 use Rattle.causal.proofs.RunSets.{has_union, union_canonical}
 
 -- no counter of the replica is higher

@@ -1,5 +1,5 @@
 -- Places: four keys. The keys before the first 0 name a path, as feeder 12, socket 1; the rest are 0.
-use Rattle.std.specs.Prelude.{ℕ, suc, Bool, true, false, cond, not, ◌&&◌, ◌||◌, List, [], ◌∷◌, take, drop, ◌==◌, nat_lt}
+use Rattle.std.specs.Prelude.{ℕ, suc, Bool, true, false, cond, ◌&&◌, ◌||◌, List, [], ◌∷◌, take, drop, ◌==◌, nat_lt}
 use Rattle.std.specs.declared.cmp.Ordering.{Ordering}
 use Rattle.causal.specs.declared.places.Place.{Place}
 use Rattle.causal.specs.Dots.{ranking}

@@ -1,6 +1,6 @@
 -- Worked examples, computed from the definitions.
 use Rattle.std.specs.Prelude.{◌≡◌, [], ◌∷◌}
-use Rattle.causal.specs.Runs.{run, union}
+use Rattle.causal.specs.Runs.{run}
 use Rattle.contexts.specs.Contexts.{with_run}
 use Rattle.kinds.specs.Models.{limit_kind, lines_kind}
 

@@ -8,7 +8,7 @@ use Rattle.causal.specs.declared.places.Place.{Place}
 use Rattle.causal.specs.Dots.{is_dot, is_replica, is_counter, last_counter}
 use Rattle.causal.specs.Places.{is_place}
 use Rattle.kinds.specs.Kinds.{ValueKind}
-use Rattle.causal.specs.Runs.{has, highest, dot}
+use Rattle.causal.specs.Runs.{has, highest}
 use Rattle.causal.proofs.RunHighest.{below_highest, highest_union, fresh}
 use Rattle.stores.specs.Items.{Item, Ascends, Apart, has_dot, find, precedes}
 use Rattle.stores.specs.Puts.{is_address, fits_part, first_of}

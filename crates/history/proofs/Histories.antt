@@ -7,7 +7,7 @@ use Rattle.causal.specs.declared.places.Place.{Place}
 use Rattle.causal.specs.Dots.{is_dot}
 use Rattle.kinds.specs.Kinds.{ValueKind}
 use Rattle.stores.specs.Items.{Item, find}
-use Rattle.stores.specs.Puts.{is_address, first_of}
+use Rattle.stores.specs.Puts.{first_of}
 use Rattle.stores.specs.Sound.{Proper}
 use Rattle.groups.specs.Groups.{Group, Formed, joined, Level}
 use Rattle.groups.proofs.Keeps.{all_found}

@@ -15,7 +15,7 @@ use Rattle.calls.specs.Arrivals.{room_fault, Verdict, turned_away, is_old, is_fr
 use Rattle.history.specs.Sets.{◌∈◌}
 use Rattle.history.specs.Worlds as worlds
 use Rattle.history.specs.Worlds.{Number, Setting, Call, Bytewise, World, called}
-use Rattle.history.specs.History.{Edit, Edits, all_of, Past, Letter, grown, book, letter_bytes, uniting_fault, posts, collects, ships, ships_whole, takes_fault, judges, takes, delivers, Machine, on_post, on_each, tells, blank, history}
+use Rattle.history.specs.History.{Edit, Edits, all_of, Past, Letter, grown, letter_bytes, uniting_fault, posts, collects, ships, ships_whole, takes_fault, judges, takes, delivers, Machine, on_post, on_each, tells, blank, history}
 use Rattle.history.specs.Law.{image, compared, Accepted, Ships, Meeting, Meets}
 use Rattle.history.proofs.Members.{in_left, in_either, in_nth, nth_end}
 use Rattle.history.proofs.Histories.{Part, same_book}

@@ -1,7 +1,7 @@
 -- The calls keep a replica sound.
-use Rattle.std.proofs.Common.{◌≡◌, ℕ, zero, suc, ◌+◌, ◌-◌, ◌*◌, ◌/◌, ◌<◌, ◌≤◌, Bool, true, false, cond, ◌&&◌, eqb, ltb, leb, List, [], ◌∷◌, ◌++◌, map, length, get_or, take, drop, Some, None, fold, filter, Option, sym, refl, ap, ◌∙◌, subst, ⊎_elim, arith, length-append, length-drop}
+use Rattle.std.proofs.Common.{◌≡◌, ℕ, zero, suc, ◌+◌, ◌-◌, ◌*◌, ◌/◌, ◌<◌, ◌≤◌, Bool, true, false, cond, ◌&&◌, eqb, ltb, leb, List, [], ◌∷◌, ◌++◌, map, length, take, drop, Some, None, fold, filter, Option, sym, refl, ap, ◌∙◌, subst, ⊎_elim, arith, length-append, length-drop}
 use Rattle.std.proofs.lemmas.List.{length-set}
-use Rattle.std.proofs.lemmas.Bool.{and_from, and_parts, le-leb, leb-false, ltb-false, eqb-true, cond_both, cases_lt, cases_eq}
+use Rattle.std.proofs.lemmas.Bool.{and_from, and_parts, le-leb, leb-false, ltb-false, eqb-true, cond_both}
 use Rattle.std.specs.List.{slice_get, AllByRecursion as All}
 use Rattle.refusals.specs.declared.Refusal.{Refusal}
 use Rattle.causal.specs.declared.dots.Dot.{Dot}
@@ -14,11 +14,10 @@ use Rattle.causal.specs.Runs.{highest}
 use Rattle.causal.proofs.RunFacts.{canonical_test}
 use Rattle.shelves.specs.Parcels.{append_refusal}
 use Rattle.stores.specs.Faults.{part_full}
-use Rattle.stores.specs.Items.{Item, Ascends, Apart, find, count_part}
+use Rattle.stores.specs.Items.{Item, Ascends, Apart, find}
 use Rattle.stores.specs.Puts.{is_address, fits_part, first_of}
 use Rattle.stores.specs.Sound.{FewParts, Proper}
 use Rattle.groups.specs.Groups.{Group, empty, Known, Formed, joined, joined_all}
-use Rattle.stores.proofs.Stays.{some_none}
 use Rattle.stores.proofs.Lookups.{found_all}
 use Rattle.groups.proofs.Keeps.{Recodes, all_found}
 use Rattle.groups.proofs.Meets.{codes_fit}

@@ -1,19 +1,19 @@
 -- How many items a part has after a join.
-use Rattle.std.proofs.Common.{◌≡◌, ℕ, zero, suc, ◌+◌, ◌-◌, ◌<◌, ◌≤◌, min, Bool, true, false, cond, not, ◌&&◌, ltb, List, [], ◌∷◌, length, get_or, drop, is_some, Some, None, filter, Option, sym, refl, ap, ◌∙◌, subst, ap₂, inl, inr, add-one, arith}
-use Rattle.std.specs.List.{slice_get, AllByRecursion as All}
+use Rattle.std.proofs.Common.{◌≡◌, ℕ, suc, ◌+◌, ◌-◌, ◌<◌, ◌≤◌, Bool, true, false, cond, not, ◌&&◌, ltb, List, [], ◌∷◌, length, get_or, drop, is_some, Some, None, filter, Option, sym, refl, ap, ◌∙◌, ap₂, arith}
+use Rattle.std.specs.List.{slice_get}
 use Rattle.std.proofs.lemmas.List.{at_drop_all}
-use Rattle.std.proofs.lemmas.Bool.{cond-true, cond-false, cond_both, lt-ltb, le-ltb, eq-eqb, ne_eqb, and_from, and_left, and_right}
+use Rattle.std.proofs.lemmas.Bool.{cond-true, cond-false, lt-ltb, le-ltb, eq-eqb, ne_eqb, and_from, and_left, and_right}
 use Rattle.std.proofs.ByRecursion.{All-get_or}
 use Rattle.causal.specs.declared.runs.Run.{Run}
 use Rattle.kinds.specs.Kinds.{ValueKind}
 use Rattle.causal.specs.Runs.{has}
-use Rattle.stores.specs.Items.{Item, stands, find, in_part, count_part, insert_item}
+use Rattle.stores.specs.Items.{Item, stands, find, in_part, count_part}
 use Rattle.stores.specs.Sound.{Roomy, most_entries}
-use Rattle.stores.proofs.Stays.{cond_out, count_first, count_insert}
+use Rattle.stores.proofs.Stays.{count_first, count_insert}
 use Rattle.stores.proofs.Walking.{drop_nth}
 use Rattle.groups.specs.Groups.{Group, meet, settle, stays, comes, lead, keep, insert_items, joined}
 use Rattle.groups.proofs.Meets.{meet_recodes}
-use Rattle.joining.specs.Questions.{book, struck, arrives, overfull_from, overfull, elsewhere, elsewhere_from}
+use Rattle.joining.specs.Questions.{struck, arrives, overfull_from, elsewhere, elsewhere_from}
 use Rattle.joining.specs.Strikes.{spared, remaining}
 use Rattle.joining.proofs.Struck.{kept_turned}
 use Rattle.joining.proofs.EnterSteps.{found_stands}

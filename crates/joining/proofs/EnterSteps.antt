@@ -1,8 +1,7 @@
 -- The items of a group enter what its strikes have left: the outcome is the join, and no put lacks room.
-use Rattle.std.proofs.Common.{◌≡◌, ℕ, zero, suc, ◌+◌, ◌<◌, ◌≤◌, Bool, true, false, cond, not, ◌&&◌, ◌||◌, eqb, leb, List, [], ◌∷◌, map, length, get_or, drop, is_some, Some, None, filter, Option, sym, refl, ap, ◌∙◌, subst, ap₂, inl, inr, arith}
+use Rattle.std.proofs.Common.{◌≡◌, ℕ, zero, suc, ◌+◌, ◌<◌, ◌≤◌, Bool, true, false, cond, not, ◌&&◌, ◌||◌, eqb, leb, List, [], ◌∷◌, map, length, get_or, drop, is_some, Some, None, Option, sym, refl, ap, ◌∙◌, subst, ap₂, inl, inr, arith}
 use Rattle.std.specs.List.{slice_get, AllByRecursion as All}
 use Rattle.std.specs.Option.{option_map}
-use Rattle.std.proofs.lemmas.Option.{slice_get-get_or}
 use Rattle.std.proofs.lemmas.Bool.{cases_Bool, cond-true, cond-false, cond_both, both_ways, lt-leb, and_right, or_right}
 use Rattle.causal.specs.declared.dots.Dot.{Dot}
 use Rattle.causal.specs.declared.runs.Run.{Run}
@@ -10,10 +9,10 @@ use Rattle.causal.specs.Dots.{same_dot}
 use Rattle.kinds.specs.Kinds.{ValueKind}
 use Rattle.causal.specs.Runs.{has}
 use Rattle.stores.specs.declared.entries.Entry.{Entry}
-use Rattle.stores.specs.Items.{Item, item_at, has_dot, stands, find, in_part, count_part, merge, merge_dot, insert_item, put_items, Ascends, Apart}
+use Rattle.stores.specs.Items.{Item, item_at, has_dot, stands, find, in_part, count_part, merge_dot, insert_item, put_items, Ascends, Apart}
 use Rattle.stores.specs.Faults.{bad_address, bad_code}
 use Rattle.stores.specs.Laws.{joined_with}
-use Rattle.stores.specs.Puts.{is_address, fits_kind, misfit_of, misfit, crowded, full_if, first_of, put_refusal, accept, put_of, put_after}
+use Rattle.stores.specs.Puts.{is_address, fits_kind, misfit_of, misfit, crowded, full_if, first_of, accept, put_of, put_after}
 use Rattle.stores.specs.Sound.{Proper}
 use Rattle.stores.proofs.ItemOrder.{dot_equal, dot_itself}
 use Rattle.stores.proofs.Held.{absent_stands}

@@ -1,12 +1,11 @@
 -- The outcome of a join that has room.
-use Rattle.std.proofs.Common.{◌≡◌, ℕ, zero, suc, ◌+◌, ◌-◌, ◌<◌, ◌≤◌, Bool, true, false, cond, eqb, ltb, ◌⊎◌, List, [], ◌∷◌, length, get_or, Some, None, Option, sym, refl, ap, ◌∙◌, subst, ap₂, inl, inr, arith}
+use Rattle.std.proofs.Common.{◌≡◌, ℕ, zero, suc, ◌+◌, ◌<◌, ◌≤◌, Bool, true, false, cond, ltb, List, [], ◌∷◌, length, get_or, Some, None, Option, sym, refl, ap, ◌∙◌, subst, ap₂, inl, inr, arith}
 use Rattle.std.specs.List.{AllByRecursion as All}
-use Rattle.std.proofs.lemmas.Bool.{cases_Bool, cases_lt, cond-true, cond-false, ltb-false, ne_eqb}
+use Rattle.std.proofs.lemmas.Bool.{cases_lt, cond-false, ltb-false, ne_eqb}
 use Rattle.causal.specs.declared.runs.Run.{Run}
 use Rattle.contexts.specs.Contexts.{too_many}
 use Rattle.kinds.specs.Kinds.{ValueKind}
 use Rattle.causal.specs.Runs.{union}
-use Rattle.refusals.specs.declared.Refusal.{Refusal}
 use Rattle.stores.specs.Items.{Item, in_part, count_part}
 use Rattle.stores.specs.Sound.{Proper}
 use Rattle.stores.proofs.Stays.{some_none, count_first, all_placed}

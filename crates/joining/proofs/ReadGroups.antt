@@ -1,5 +1,5 @@
 -- A group that was read is laid out in its bytes.
-use Rattle.std.proofs.Common.{◌≡◌, ℕ, zero, suc, ◌+◌, ◌-◌, ◌*◌, ◌/◌, ◌^◌, ◌<◌, ◌≤◌, Bool, true, false, cond, ◌&&◌, ltb, List, [], ◌∷◌, ◌++◌, length, take, drop, replicate, Some, None, Option, sym, refl, ap, ◌∙◌, subst, ap₂, inl, inr, append-nil, arith, length-append}
+use Rattle.std.proofs.Common.{◌≡◌, ℕ, zero, suc, ◌+◌, ◌*◌, ◌/◌, ◌^◌, ◌<◌, ◌≤◌, Bool, true, false, cond, ◌&&◌, ltb, List, [], ◌∷◌, ◌++◌, length, take, drop, replicate, Some, None, Option, sym, refl, ap, ◌∙◌, subst, ap₂, inl, inr, arith, length-append}
 use Rattle.std.proofs.lemmas.List.{drop-drop}
 use Rattle.std.proofs.lemmas.Bool.{cases_lt, cond-true, lt-ltb, ltb-true, and_parts, false≢true}
 use Rattle.refusals.specs.declared.Refusal.{Refusal}
@@ -15,9 +15,8 @@ use Rattle.records.specs.declared.record.Record.{Record}
 use Rattle.records.specs.declared.record.Record.TheVariants.{Entry as of_entry, Run as of_run, Origin as of_origin}
 use Rattle.reading.specs.Faults.{bad_record, out_of_order, bad_code, stray_dot}
 use Rattle.records.specs.Fields.{fields_of}
-use Rattle.reading.specs.Reading.{item_in, item_follows, run_follows, is_empty, entry_fault, run_fault, record_fault, stray, dots_of, Reading, faulty, complete, finished, scan, first_group}
+use Rattle.reading.specs.Reading.{item_in, item_follows, run_follows, is_empty, entry_fault, record_fault, stray, dots_of, faulty, complete, finished, scan, first_group}
 use Rattle.records.specs.Records.{decoded}
-use Rattle.records.specs.Records.{record_at}
 use Rattle.records.proofs.Reading.{record_in_range}
 use Rattle.stores.specs.Items.{Item}
 use Rattle.stores.specs.Puts.{fits_part}

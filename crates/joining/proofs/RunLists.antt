@@ -1,5 +1,5 @@
 -- Runs that are added one after another, in their order.
-use Rattle.std.proofs.Common.{◌≡◌, ℕ, zero, suc, ◌+◌, ◌<◌, ◌≤◌, Bool, true, false, cond, ◌||◌, List, [], ◌∷◌, ◌++◌, length, get_or, take, Some, None, sym, refl, ap, ◌∙◌, subst, arith, length-take}
+use Rattle.std.proofs.Common.{◌≡◌, ℕ, zero, suc, ◌+◌, ◌<◌, ◌≤◌, Bool, true, ◌||◌, List, [], ◌∷◌, ◌++◌, length, get_or, take, Some, None, sym, refl, ap, ◌∙◌, subst, arith, length-take}
 use Rattle.std.specs.List.{slice_get}
 use Rattle.std.proofs.lemmas.List.{take_more}
 use Rattle.std.proofs.lemmas.Option.{slice_get-get_or}
@@ -7,7 +7,7 @@ use Rattle.std.proofs.lemmas.Bool.{cond-true, cond-false, le-ltb}
 use Rattle.causal.specs.declared.dots.Dot.{Dot}
 use Rattle.causal.specs.declared.runs.Run.{Run}
 use Rattle.contexts.specs.Contexts.{most_runs, too_many, with_run}
-use Rattle.causal.specs.Runs.{has, in_run, before, canonical, union, is_run}
+use Rattle.causal.specs.Runs.{has, in_run, canonical, union, is_run}
 use Rattle.causal.proofs.RunFacts.{Sound, Ahead, Canonical, sound_test, canonical_from}
 use Rattle.causal.proofs.RunSets.{ext, has_union, union_canonical}
 

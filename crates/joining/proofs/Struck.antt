@@ -1,7 +1,6 @@
 -- What a group strikes, and what the strikes leave.
-use Rattle.std.proofs.Common.{◌≡◌, ℕ, zero, suc, ◌+◌, ◌-◌, ◌<◌, ◌≤◌, Bool, true, false, cond, not, ◌&&◌, ◌||◌, eqb, ltb, List, [], ◌∷◌, ◌++◌, length, take, drop, Some, None, filter, sym, refl, ap, ◌∙◌, subst, ap₂, inl, inr, arith}
+use Rattle.std.proofs.Common.{◌≡◌, ℕ, zero, suc, ◌+◌, ◌-◌, ◌<◌, ◌≤◌, Bool, true, false, cond, not, ◌&&◌, List, [], ◌∷◌, ◌++◌, length, take, drop, Some, None, filter, sym, refl, ap, ◌∙◌, subst, ap₂, inl, inr, arith}
 use Rattle.std.specs.List.{slice_get, AllByRecursion as All}
-use Rattle.std.proofs.lemmas.Bool.Decides.{nat_tests}
 use Rattle.std.proofs.lemmas.List.Elements.{filter-append}
 use Rattle.std.proofs.ByRecursion.{all_kept_by, All-weaker}
 use Rattle.std.proofs.lemmas.List.{take-append-drop, drop_all, length-take}
@@ -9,7 +8,7 @@ use Rattle.std.proofs.lemmas.Option.{slice_get_past}
 use Rattle.std.proofs.lemmas.Bool.{cond-true, cond-false, cond_both, cases_lt, eq-eqb}
 use Rattle.causal.specs.declared.dots.Dot.{Dot}
 use Rattle.causal.specs.Runs.{has}
-use Rattle.stores.specs.Items.{Item, has_dot, stands, in_part, find, strike_items}
+use Rattle.stores.specs.Items.{Item, has_dot, stands, in_part, strike_items}
 use Rattle.stores.proofs.ItemOrder.{dot_equal, dot_itself}
 use Rattle.stores.proofs.Held.{lacks}
 use Rattle.stores.proofs.Stays.{some_none}

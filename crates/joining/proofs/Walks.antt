@@ -1,5 +1,5 @@
 -- The steps of a walk over a group's items.
-use Rattle.std.proofs.Common.{◌≡◌, ℕ, zero, suc, ◌+◌, ◌<◌, ◌≤◌, Bool, true, false, cond, ◌||◌, List, [], ◌∷◌, length, drop, Some, None, filter, sym, refl, ap, ◌∙◌, inl, inr, arith}
+use Rattle.std.proofs.Common.{◌≡◌, ℕ, zero, suc, ◌+◌, ◌<◌, ◌≤◌, Bool, true, false, cond, ◌||◌, List, [], ◌∷◌, length, drop, Some, filter, sym, ap, ◌∙◌, inl, inr}
 use Rattle.std.specs.List.{slice_get}
 use Rattle.std.proofs.lemmas.List.{at_drop_all}
 use Rattle.std.proofs.lemmas.Bool.{or_left, or_right, or_cases}
@@ -7,7 +7,7 @@ use Rattle.causal.specs.declared.dots.Dot.{Dot}
 use Rattle.stores.specs.Items.{Item, has_dot, stands}
 use Rattle.stores.proofs.Stays.{some_none}
 use Rattle.stores.proofs.Lookups.{some_same}
-use Rattle.stores.proofs.Walking.{drop_nth, nth_within}
+use Rattle.stores.proofs.Walking.{drop_nth}
 
 module _ (d : Dot) (ys : List Item) (i : ℕ) where
   pub stands_here : (y : Item) → i < length ys → Some y ≡ slice_get ys i → has_dot d y ≡ true → stands d (drop i ys) ≡ true

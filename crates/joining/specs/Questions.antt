@@ -1,5 +1,5 @@
 -- What can be asked of a join before it is done.
-use Rattle.std.specs.Prelude.{ℕ, zero, suc, ◌+◌, Bool, true, false, cond, not, ◌&&◌, List, [], ◌∷◌, length, Some, None, Option, nat_lt, slice_index}
+use Rattle.std.specs.Prelude.{ℕ, zero, suc, ◌+◌, Bool, false, cond, not, ◌&&◌, List, [], ◌∷◌, length, Some, None, Option, nat_lt, slice_index}
 use Rattle.causal.specs.declared.dots.Dot.{Dot}
 use Rattle.causal.specs.declared.runs.Run.{Run}
 use Rattle.kinds.specs.Kinds.{ValueKind}

@@ -1,7 +1,7 @@
 // A feeder's limit in whole amps, 0 to 4,000. Of two the smaller stands.
 ghost use Rattle.std.specs.Prelude.{◌≤◌};
 ghost use Rattle.kinds.specs.Models.{limit_kind};
-ghost use Rattle.std.proofs.Common.{rules, arith};
+ghost use Rattle.std.proofs.lemmas.Bool.{le-leb};
 
 use crate::kind::Kind;
 
@@ -16,7 +16,7 @@ impl Kind for Limit {
 
     ghost code = { λ v. v.amps };
 
-    ghost fits = { first_of (Prim.search rules, Prim.grind (arith, Self.row.coded.inj)) };
+    ghost fits = { λ v. le-leb v.amps 4000 v.ok };
 
     fn read(number: u64) -> Option<Limit> {
         if number <= 4000 {

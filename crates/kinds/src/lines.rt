@@ -1,7 +1,7 @@
 // The phases of a socket: bits 0, 1 and 2 for L1, L2 and L3. Of two, all that either has.
 ghost use Rattle.std.specs.Prelude.{◌≤◌};
 ghost use Rattle.kinds.specs.Models.{lines_kind};
-ghost use Rattle.std.proofs.Common.{rules, arith};
+ghost use Rattle.std.proofs.lemmas.Bool.{le-leb};
 
 use crate::kind::Kind;
 
@@ -16,7 +16,7 @@ impl Kind for Lines {
 
     ghost code = { λ v. v.bits };
 
-    ghost fits = { first_of (Prim.search rules, Prim.grind (arith, Self.row.coded.inj)) };
+    ghost fits = { λ v. le-leb v.bits 7 v.ok };
 
     fn read(number: u64) -> Option<Lines> {
         if number <= 7 {

@@ -1,6 +1,6 @@
 // A flag: it is there, and its code, always 0, says nothing more.
 ghost use Rattle.kinds.specs.Models.{mark_kind};
-ghost use Rattle.std.proofs.Common.{rules};
+ghost use Rattle.std.specs.Prelude.{refl};
 
 use crate::kind::Kind;
 
@@ -12,7 +12,7 @@ impl Kind for Mark {
 
     ghost code = { λ _. 0 };
 
-    ghost fits = { Prim.search rules };
+    ghost fits = { λ _. refl };
 
     fn read(number: u64) -> Option<Mark> {
         if number == 0 { Some(Mark) } else { None }

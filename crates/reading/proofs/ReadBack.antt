@@ -1,28 +1,26 @@
 -- What is written is read back.
-use Rattle.std.proofs.Common.{◌≡◌, ℕ, zero, suc, ◌+◌, ◌-◌, ◌*◌, ◌/◌, ◌^◌, ◌<◌, ◌≤◌, Bool, true, false, cond, not, ◌&&◌, ◌||◌, eqb, ltb, leb, ◌⊎◌, List, [], ◌∷◌, ◌++◌, map, length, take, drop, Some, None, Option, sym, refl, ap, ◌∙◌, subst, ap₂, inl, inr, ⊎_elim, append_assoc, append-nil, arith, length-append}
+use Rattle.std.proofs.Common.{◌≡◌, ℕ, suc, ◌+◌, ◌*◌, ◌/◌, ◌^◌, ◌<◌, ◌≤◌, true, false, not, ◌&&◌, ◌||◌, ltb, leb, List, [], ◌∷◌, ◌++◌, map, length, Some, None, Option, sym, refl, ap, ◌∙◌, subst, ap₂, append_assoc, append-nil, arith, length-append}
 use Rattle.std.proofs.lemmas.List.{length-map, map-append}
 use Rattle.std.specs.List.{flat_map, AllByRecursion as All, slice_get}
 use Rattle.std.proofs.lemmas.Bool.{cond-true, cond-false, lt-ltb, le-ltb, leb-true, and_parts, and_from, not_from_false}
-use Rattle.refusals.specs.declared.Refusal.{Refusal}
 use Rattle.causal.specs.declared.dots.Dot.{Dot}
 use Rattle.causal.specs.declared.runs.Run.{Run}
 use Rattle.causal.specs.Dots.{is_dot, is_replica, is_counter, same_dot}
 use Rattle.contexts.specs.Contexts.{most_runs}
 use Rattle.kinds.specs.Kinds.{ValueKind}
 use Rattle.causal.specs.Places.{is_place, depth_of}
-use Rattle.causal.specs.Runs.{has, before, ahead, canonical, is_run, last}
-use Rattle.causal.proofs.RunFacts.{Sound, sound_from}
+use Rattle.causal.specs.Runs.{has, ahead, canonical, is_run, last}
+use Rattle.causal.proofs.RunFacts.{sound_from}
 use Rattle.stores.specs.Items.{Item, precedes, Ascends, Apart, has_dot}
-use Rattle.stores.specs.Puts.{is_address, fits_kind, fits_part}
+use Rattle.stores.specs.Puts.{fits_kind, fits_part}
 use Rattle.stores.specs.Sound.{Proper}
 use Rattle.groups.specs.Groups.{Group, Known, Formed}
 use Rattle.records.specs.declared.record.Origin.{Origin}
-use Rattle.records.specs.declared.record.PartEntry.{PartEntry}
 use Rattle.records.specs.declared.record.Record.{Record}
-use Rattle.records.specs.declared.record.Record.TheVariants.{Entry as of_entry, Run as of_run, Origin as of_origin}
-use Rattle.reading.specs.Faults.{bad_record, out_of_order, bad_code, stray_dot, no_origin, trailing_records}
-use Rattle.reading.specs.Reading.{item_in, item_follows, run_follows, is_empty, entry_fault, run_fault, record_fault, among, stray, dots_of, Reading, faulty, complete, finished, scan, first_group, alone, parcel_group}
-use Rattle.records.specs.Records.{fields_for, decoded, encoded, is_origin, is_record}
+use Rattle.records.specs.declared.record.Record.TheVariants.{Run as of_run, Origin as of_origin}
+use Rattle.reading.specs.Faults.{stray_dot}
+use Rattle.reading.specs.Reading.{item_follows, run_follows, entry_fault, run_fault, record_fault, among, stray, dots_of, faulty, complete, finished, scan, first_group, alone, parcel_group}
+use Rattle.records.specs.Records.{decoded, encoded, is_origin}
 use Rattle.records.specs.Written.{entry_record, records_for, written, record_count, Narrow, Writable}
 use Rattle.records.proofs.Reading.{decoded_encoded}
 use Rattle.reading.proofs.Resume.{resume}

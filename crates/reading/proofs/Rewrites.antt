@@ -1,5 +1,5 @@
 -- What is read is written again as the same bytes, and is a well-formed group.
-use Rattle.std.proofs.Common.{◌≡◌, ℕ, zero, suc, ◌+◌, ◌-◌, ◌*◌, ◌/◌, ◌^◌, ◌<◌, ◌≤◌, Bool, true, false, cond, not, ◌&&◌, ◌||◌, eqb, ltb, leb, ◌⊎◌, List, [], ◌∷◌, ◌++◌, map, length, take, drop, Some, None, Option, sym, refl, ap, ◌∙◌, subst, ap₂, inl, inr, ⊎_elim, append_assoc, append-nil, arith, length-append, length-drop, length-take, take-add}
+use Rattle.std.proofs.Common.{◌≡◌, ℕ, zero, suc, ◌+◌, ◌*◌, ◌/◌, ◌^◌, ◌<◌, ◌≤◌, Bool, true, false, cond, not, ◌&&◌, ltb, List, [], ◌∷◌, ◌++◌, map, length, take, drop, Some, None, Option, sym, refl, ap, ◌∙◌, subst, ap₂, ⊎_elim, append_assoc, arith, length-append, length-drop, length-take, take-add}
 use Rattle.std.specs.List.{flat_map, AllByRecursion as All, slice_get}
 use Rattle.std.proofs.ByRecursion.{All-take, All-drop, All-append}
 use Rattle.std.proofs.lemmas.List.{map-append, drop-drop}
@@ -10,29 +10,28 @@ use Rattle.causal.specs.declared.runs.Run.{Run}
 use Rattle.causal.specs.Dots.{same_dot}
 use Rattle.contexts.specs.Contexts.{most_runs}
 use Rattle.kinds.specs.Kinds.{ValueKind}
-use Rattle.causal.specs.Runs.{has, canonical, is_run, last}
+use Rattle.causal.specs.Runs.{has, canonical, last}
 use Rattle.causal.proofs.RunFacts.{sound_from, canonical_from, canonical_test}
 use Rattle.stores.specs.Items.{Item, precedes, Ascends, Apart, has_dot}
 use Rattle.stores.specs.Puts.{fits_part}
 use Rattle.stores.specs.Sound.{Proper}
 use Rattle.stores.proofs.ItemOrder.{precedes_transitive, dot_equal, dot_itself}
 use Rattle.groups.specs.Groups.{Group, Known, Formed}
-use Rattle.records.specs.declared.fields.Fields.{Fields}
 use Rattle.records.specs.declared.record.Origin.{Origin}
 use Rattle.records.specs.declared.record.PartEntry.{PartEntry}
 use Rattle.records.specs.declared.record.Record.{Record}
 use Rattle.records.specs.declared.record.Record.TheVariants.{Entry as of_entry, Run as of_run, Origin as of_origin}
 use Rattle.reading.specs.Faults.{bad_record, out_of_order, bad_code, stray_dot}
 use Rattle.records.specs.Fields.{fields_of}
-use Rattle.reading.specs.Reading.{item_in, item_follows, run_follows, is_empty, entry_fault, run_fault, record_fault, among, stray, dots_of, Reading, faulty, complete, finished, scan, first_group}
-use Rattle.records.specs.Records.{decoded, encoded, origin_in, is_origin, is_record}
+use Rattle.reading.specs.Reading.{item_in, item_follows, is_empty, entry_fault, run_fault, record_fault, among, stray, dots_of, faulty, complete, finished, scan, first_group}
+use Rattle.records.specs.Records.{decoded, encoded, origin_in, is_origin}
 use Rattle.reading.specs.SpellingLaws.{Bytes, OneSpelling}
 use Rattle.records.specs.Written.{entry_record, records_for, written, record_count, Narrow, Writable}
 use Rattle.records.proofs.Spelling.{bytes_narrow}
 use Rattle.records.proofs.Reading.{encoded_decoded, record_in_range, decoded_entry, decoded_origin}
 use Rattle.reading.proofs.Resume.{resume}
 use Rattle.reading.proofs.ReadBack.{length_records, read_back, parcel_back}
-use Rattle.reading.proofs.Stepping.{not_some, run_good, follows_canonical}
+use Rattle.reading.proofs.Stepping.{run_good, follows_canonical}
 
 -- what an entry without a fault tells
 

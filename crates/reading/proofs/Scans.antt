@@ -1,29 +1,24 @@
 -- Reading a group record by record is the scan of its bytes.
-use Rattle.std.proofs.Common.{◌≡◌, ℕ, zero, suc, ◌+◌, ◌-◌, ◌*◌, ◌/◌, ◌<◌, ◌≤◌, min, Bool, true, false, cond, ◌&&◌, ltb, ◌⊎◌, List, [], ◌∷◌, ◌++◌, map, length, get_or, take, drop, replicate, Some, None, Ok, Err, Option, Result, sym, refl, ap, ◌∙◌, subst, ap₂, inl, inr, ⊎_elim, append-nil, arith, length-append}
-use Rattle.std.specs.List.{range_with_len}
+use Rattle.std.proofs.Common.{◌≡◌, ℕ, suc, ◌+◌, ◌-◌, ◌*◌, ◌/◌, ◌<◌, ◌≤◌, min, Bool, true, false, cond, ltb, List, [], ◌∷◌, ◌++◌, length, get_or, take, drop, replicate, Some, None, Ok, Err, Option, sym, refl, ap, ◌∙◌, subst, ap₂, ⊎_elim, arith, length-append}
 use Rattle.std.proofs.lemmas.List.FromFn.{map-range_with_len_more}
 use Rattle.std.proofs.lemmas.List.{drop-drop, get_or-take, get_or-drop, map-append}
-use Rattle.std.proofs.lemmas.Bool.{cond-true, cond-false, lt-ltb, le-ltb, ltb-true, and_parts, cases_lt, cases_Bool}
+use Rattle.std.proofs.lemmas.Bool.{cond-true, cond-false, lt-ltb, le-ltb, cases_lt}
 use Rattle.refusals.specs.declared.Refusal.{Refusal}
-use Rattle.causal.specs.declared.dots.Dot.{Dot}
 use Rattle.causal.specs.declared.runs.Run.{Run}
 use Rattle.kinds.specs.Kinds.{ValueKind}
 use Rattle.causal.specs.Runs.{dot, last}
 use Rattle.stores.specs.Items.{Item}
-use Rattle.stores.specs.Puts.{fits_part}
-use Rattle.records.specs.declared.record.GroupSummary.{GroupSummary}
 use Rattle.records.specs.declared.record.Origin.{Origin}
 use Rattle.records.specs.declared.record.PartEntry.{PartEntry}
 use Rattle.records.specs.declared.record.Record.{Record}
 use Rattle.records.specs.declared.record.Record.TheVariants.{Entry as of_entry, Run as of_run, Origin as of_origin}
-use Rattle.reading.specs.Faults.{bad_record, out_of_order, bad_code, stray_dot, no_origin}
-use Rattle.records.specs.Fields.{fields_of, two}
-use Rattle.reading.specs.Reading.{item_in, is_empty, item_follows, entry_fault, record_fault, stray, dots_of, Reading, faulty, complete, finished, scan, first_group, summary}
-use Rattle.records.specs.Records.{decoded, entry_in, record_at}
+use Rattle.reading.specs.Faults.{bad_record, out_of_order, stray_dot, no_origin}
+use Rattle.reading.specs.Reading.{item_in, entry_fault, record_fault, stray, dots_of, Reading, faulty, complete, scan, first_group, summary}
+use Rattle.records.specs.Records.{decoded, record_at}
 use Rattle.reading.specs.Stands.{Stand, start, next_fault, next_record, moved, dot_at, dots_at, closing, entries_read, closed}
 use Rattle.records.proofs.Reading.{decoded_entry}
 use Rattle.reading.proofs.Resume.{resume}
-use Rattle.reading.proofs.Stepping.{next_within, next_decoded, not_some}
+use Rattle.reading.proofs.Stepping.{next_within, next_decoded}
 
 module _ (ks : List ValueKind) (bs : List ℕ) where
   -- the scan from record n on

@@ -1,19 +1,19 @@
 -- One step of a reader.
-use Rattle.std.proofs.Common.{◌≡◌, ℕ, zero, suc, ◌+◌, ◌/◌, ◌<◌, ◌≤◌, min, Bool, true, false, cond, ◌&&◌, ◌||◌, ltb, List, [], ◌∷◌, ◌++◌, length, Some, None, Option, sym, refl, ap, ◌∙◌, subst, ⊎_elim, arith, length-append}
-use Rattle.std.proofs.lemmas.Bool.{cond-true, cond-false, lt-ltb, le-ltb, ltb-true, and_parts, cases_Bool, both_ways}
+use Rattle.std.proofs.Common.{◌≡◌, ℕ, ◌+◌, ◌/◌, ◌<◌, ◌≤◌, min, Bool, true, false, cond, ◌&&◌, ◌||◌, ltb, List, [], ◌∷◌, ◌++◌, length, Some, None, Option, sym, refl, ap, ◌∙◌, arith, length-append}
+use Rattle.std.proofs.lemmas.Bool.{cond-true, cond-false, lt-ltb, le-ltb, ltb-true, and_parts}
 use Rattle.refusals.specs.declared.Refusal.{Refusal}
 use Rattle.causal.specs.declared.dots.Dot.{Dot}
 use Rattle.causal.specs.declared.runs.Run.{Run}
-use Rattle.contexts.specs.Contexts.{most_runs, too_many, bounded_union, with_run}
+use Rattle.contexts.specs.Contexts.{most_runs, too_many, with_run}
 use Rattle.kinds.specs.Kinds.{ValueKind}
-use Rattle.causal.specs.Runs.{has, in_run, before, ahead, canonical, union, is_run, last}
-use Rattle.causal.proofs.RunFacts.{Sound, Ahead, Canonical, sound_from, canonical_from, canonical_test}
+use Rattle.causal.specs.Runs.{has, in_run, canonical, union, is_run, last}
+use Rattle.causal.proofs.RunFacts.{Sound, Canonical, sound_from, canonical_from}
 use Rattle.causal.proofs.RunSets.{ext, has_union, union_canonical}
 use Rattle.records.specs.declared.record.Record.{Record}
 use Rattle.records.specs.declared.record.Record.TheVariants.{Entry as of_entry, Run as of_run, Origin as of_origin}
 use Rattle.reading.specs.Faults.{out_of_order, no_origin}
 use Rattle.reading.specs.Reading.{record_fault, run_fault, run_follows}
-use Rattle.records.specs.Records.{decoded, is_record, record_at}
+use Rattle.records.specs.Records.{decoded, record_at}
 use Rattle.reading.specs.Stands.{Stand, next_fault, next_record, moved, passed}
 use Rattle.records.proofs.Reading.{record_in_range}
 use Rattle.records.specs.Fields.{fields_of}

@@ -1,5 +1,5 @@
 -- Every group has one spelling.
-use Rattle.std.specs.Prelude.{◌≡◌, ℕ, ◌*◌, ◌<◌, ◌≤◌, List, ◌++◌, length, take}
+use Rattle.std.specs.Prelude.{◌≡◌, ℕ, ◌*◌, ◌<◌, List, ◌++◌, take}
 use Rattle.std.specs.List.{AllByRecursion as All}
 use Rattle.kinds.specs.Kinds.{ValueKind}
 use Rattle.groups.specs.Groups.{Group, Formed}

@@ -1,10 +1,9 @@
 -- Fields and bytes are each told by the other.
-use Rattle.std.proofs.Common.{◌≡◌, ℕ, zero, suc, ◌+◌, ◌*◌, ◌/◌, ◌%◌, ◌^◌, ◌<◌, ◌≤◌, List, [], ◌∷◌, map, length, get_or, sym, refl, ap, ◌∙◌, arith}
+use Rattle.std.proofs.Common.{◌≡◌, ℕ, zero, suc, ◌+◌, ◌*◌, ◌%◌, ◌^◌, ◌<◌, List, [], ◌∷◌, map, length, get_or, sym, refl, ◌∙◌, arith}
 use Rattle.std.specs.List.{range_with_len, AllByRecursion as All}
 use Rattle.std.proofs.lemmas.List.FromFn.{fill_by_all}
-use Rattle.causal.specs.declared.places.Place.{Place}
 use Rattle.records.specs.declared.fields.Fields.{Fields}
-use Rattle.records.specs.Fields.{two, eight, fields_of, byte, spelled}
+use Rattle.records.specs.Fields.{two, fields_of, byte, spelled}
 
 -- numbers by their bytes
 

@@ -1,6 +1,5 @@
 -- The 24 bytes of a record as numbers, the highest byte of each first.
-use Rattle.std.specs.Prelude.{ℕ, ◌+◌, ◌*◌, ◌/◌, ◌%◌, ◌<◌, Bool, true, ◌&&◌, List, [], ◌∷◌, slice_index}
-use Rattle.causal.specs.declared.places.Place.{Place}
+use Rattle.std.specs.Prelude.{ℕ, ◌+◌, ◌*◌, ◌/◌, ◌%◌, List, [], ◌∷◌, slice_index}
 use Rattle.records.specs.declared.fields.Fields.{Fields}
 
 -- the number in two bytes, of which the first is at i

@@ -3,7 +3,6 @@ use Rattle.std.specs.Prelude.{◌≡◌, ℕ, ◌+◌, ◌*◌, ◌/◌, ◌^◌
 use Rattle.std.specs.List.{flat_map, AllByRecursion as All}
 use Rattle.refusals.specs.declared.Refusal.{Refusal}
 use Rattle.refusals.specs.Table.{refused, refuse_if}
-use Rattle.causal.specs.declared.runs.Run.{Run}
 use Rattle.contexts.specs.Contexts.{most_runs}
 use Rattle.stores.specs.Items.{Item, entry_of}
 use Rattle.groups.specs.Groups.{Group}

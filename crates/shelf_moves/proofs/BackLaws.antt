@@ -1,5 +1,5 @@
 -- What was appended is copied back.
-use Rattle.std.proofs.Common.{◌≡◌, ℕ, leb, List, [], ◌∷◌, ◌++◌, length, drop, Some, None, Ok, Err, Result, sym, refl, ap, ◌∙◌, ⊎_elim, arith, MatchResult}
+use Rattle.std.proofs.Common.{◌≡◌, ℕ, leb, List, ◌++◌, length, drop, Some, None, Ok, Err, Result, sym, ap, ◌∙◌, ⊎_elim, arith, MatchResult}
 use Rattle.std.specs.List.{slice_get}
 use Rattle.std.proofs.lemmas.Bool.{cases_Bool, cond-true, cond-false}
 use Rattle.shelves.specs.declared.fault.ShelfFault.{ShelfFault}

@@ -1,9 +1,8 @@
 -- The first parcel, put behind the others.
-use Rattle.std.proofs.Common.{◌≡◌, ℕ, zero, suc, ◌+◌, ◌-◌, ◌/◌, ◌<◌, ◌≤◌, Bool, true, false, cond, ◌||◌, ltb, leb, List, [], ◌∷◌, ◌++◌, length, get_or, take, drop, Some, None, Ok, Err, sym, refl, ap, ◌∙◌, ⊎_elim, arith}
+use Rattle.std.proofs.Common.{◌≡◌, ℕ, ◌+◌, ◌-◌, ◌/◌, ◌≤◌, true, ◌||◌, ltb, leb, List, [], ◌∷◌, ◌++◌, length, take, drop, None, Ok, ap, ◌∙◌, arith}
 use Rattle.std.specs.List.{slice_get, remove}
-use Rattle.std.proofs.lemmas.Bool.{cases_Bool, cond-true, cond-false, or_from, lt-leb, le-ltb, lt-ltb}
-use Rattle.refusals.specs.declared.Refusal.{Refusal}
-use Rattle.shelves.specs.Parcels.{Sizes, Within, records, held, whole, crowded, misfit, unless, append_refusal, after_append, after_remove, copy_answer, copy_memory}
+use Rattle.std.proofs.lemmas.Bool.{cond-true, cond-false, or_from, lt-leb, le-ltb, lt-ltb}
+use Rattle.shelves.specs.Parcels.{Sizes, Within, records, held, whole, crowded, unless, append_refusal, after_append, after_remove, copy_answer, copy_memory}
 use Rattle.shelf_moves.specs.Moves.{first_fits}
 use Rattle.shelf_moves.proofs.FirstLaws.{copied_front, fits_from_ok, some_parcel}
 

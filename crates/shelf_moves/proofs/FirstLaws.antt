@@ -1,5 +1,5 @@
 -- The first parcel, copied, appended and removed.
-use Rattle.std.proofs.Common.{◌≡◌, ℕ, zero, suc, ◌+◌, ◌-◌, ◌<◌, ◌≤◌, Bool, true, false, cond, not, ◌&&◌, ltb, leb, List, [], ◌∷◌, ◌++◌, length, get_or, take, drop, is_some, is_ok, is_err, Some, None, Ok, Err, Option, Result, sym, refl, ap, ◌∙◌, ⊎_elim, arith}
+use Rattle.std.proofs.Common.{◌≡◌, ℕ, ◌-◌, ◌<◌, true, false, not, ◌&&◌, leb, List, [], ◌∷◌, ◌++◌, length, get_or, take, drop, is_some, is_ok, is_err, Some, None, Ok, Err, Option, Result, sym, refl, ap, ◌∙◌, ⊎_elim, arith}
 use Rattle.std.specs.List.{remove, slice_get}
 use Rattle.std.proofs.lemmas.List.{take_at}
 use Rattle.std.proofs.lemmas.Bool.{cases_Bool, cond-true, cond-false, lt-ltb}
@@ -7,7 +7,7 @@ use Rattle.shelves.specs.declared.fault.ShelfFault.{ShelfFault}
 use Rattle.refusals.specs.declared.Refusal.{Refusal}
 use Rattle.refusals.specs.Table.{refused}
 use Rattle.shelves.specs.Parcels.{Sizes, refusal, unless, append_refusal, after_append, remove_refusal, after_remove, copy_answer, copy_memory}
-use Rattle.shelf_moves.specs.Moves.{passes, first_passes}
+use Rattle.shelf_moves.specs.Moves.{first_passes}
 
 pub err_is_some : {X : Type 0} (r : Result X ShelfFault) → is_err r ≡ is_some (refusal r)
 err_is_some (Ok x) = refl

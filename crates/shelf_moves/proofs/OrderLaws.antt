@@ -1,10 +1,10 @@
 -- Positions after a parcel is appended or removed.
-use Rattle.std.proofs.Common.{◌≡◌, ℕ, zero, suc, ◌+◌, ◌-◌, ◌<◌, ◌≤◌, true, false, List, [], ◌∷◌, ◌++◌, length, take, drop, is_some, Some, None, Option, sym, refl, ap, ◌∙◌, ⊎_elim, arith}
+use Rattle.std.proofs.Common.{◌≡◌, ℕ, zero, suc, ◌+◌, ◌<◌, ◌≤◌, List, [], ◌∷◌, ◌++◌, length, Some, None, Option, refl, ap, ◌∙◌, ⊎_elim, arith}
 use Rattle.std.specs.List.{remove, slice_get}
 use Rattle.std.proofs.lemmas.List.Edits.{length-remove}
 use Rattle.std.proofs.lemmas.Bool.{cond-true, cond-false, lt-ltb, le-ltb, cases_lt}
 use Rattle.refusals.specs.declared.Refusal.{Refusal}
-use Rattle.shelves.specs.Parcels.{Sizes, unless, append_refusal, after_append, remove_refusal, after_remove}
+use Rattle.shelves.specs.Parcels.{unless, append_refusal, after_remove}
 use Rattle.shelf_moves.specs.Laws.{OrderKept}
 
 nth_end : (ps : List (List ℕ)) (p : List ℕ) → slice_get (ps ++ p ∷ []) (length ps) ≡ Some p

@@ -1,15 +1,15 @@
 -- The outcomes of a ring's calls.
-use Rattle.std.proofs.Common.{◌≡◌, ℕ, zero, suc, ◌+◌, ◌-◌, ◌*◌, ◌/◌, ◌^◌, ◌<◌, ◌≤◌, min, cond, ltb, List, [], ◌∷◌, ◌++◌, map, length, get_or, take, drop, set, Some, None, sum, sym, refl, ap, ◌∙◌, subst, arith}
+use Rattle.std.proofs.Common.{◌≡◌, ℕ, ◌+◌, ◌-◌, ◌*◌, ◌^◌, ◌<◌, ◌≤◌, min, cond, ltb, List, [], ◌∷◌, ◌++◌, length, get_or, take, drop, set, None, sum, sym, ap, ◌∙◌, arith}
 use Rattle.std.specs.List.{remove}
 use Rattle.std.proofs.lemmas.List.{length-set}
 use Rattle.shelves.specs.declared.extent.Extent.{Extent}
 use Rattle.shelves.specs.Layout.{byte, laid, source}
 use Rattle.shelves.specs.Extents.{Placed}
-use Rattle.shelves.specs.Parcels.{Within, held, misfit, append_refusal, after_append, remove_refusal, after_remove}
+use Rattle.shelves.specs.Parcels.{held, misfit, append_refusal, after_append, remove_refusal, after_remove}
 use Rattle.shelves.specs.Rings.{ring_sizes, ring_room, ring_parcels, SoundRing}
 use Rattle.shelves.proofs.Written.{length_laid, laid_spare}
 use Rattle.shelves.proofs.Placed.{sum_upto}
-use Rattle.shelves.proofs.Stocks.{Fits, misfit_none, whole_parts, within_append, within_remove, append_taken, remove_answer, remove_taken}
+use Rattle.shelves.proofs.Stocks.{misfit_none, whole_parts, within_append, within_remove, append_taken, remove_answer, remove_taken}
 use Rattle.shelves.proofs.RingLaws.{ring_count, ring_sum, ring_fits, ring_refusal, ring_appended, ring_removed, sound_by}
 
 -- a parcel was taken

@@ -1,16 +1,16 @@
 -- What a ring's calls leave.
-use Rattle.std.proofs.Common.{◌≡◌, ℕ, zero, suc, ◌+◌, ◌-◌, ◌*◌, ◌/◌, ◌^◌, ◌<◌, ◌≤◌, min, cond, ltb, List, [], ◌∷◌, ◌++◌, map, length, get_or, take, drop, set, sum, sym, refl, ap, ◌∙◌, subst, arith}
+use Rattle.std.proofs.Common.{◌≡◌, ℕ, ◌+◌, ◌-◌, ◌*◌, ◌/◌, ◌^◌, ◌<◌, ◌≤◌, min, cond, ltb, List, [], ◌∷◌, ◌++◌, map, length, get_or, take, set, sum, sym, ap, ◌∙◌, subst, arith}
 use Rattle.std.specs.List.{range_with_len, remove}
-use Rattle.std.proofs.lemmas.List.{length-take-le, take-take, get_or-take, take_more_set, length-set}
+use Rattle.std.proofs.lemmas.List.{length-take-le, take-take, get_or-take, take_more_set}
 use Rattle.std.proofs.lemmas.Bool.{cond-true, cond-false, lt-ltb, le-ltb}
-use Rattle.shelves.specs.Layout.{byte, pieces, laid, source, turn}
-use Rattle.shelves.specs.Parcels.{Sizes, Within, held, whole, misfit, append_refusal}
+use Rattle.shelves.specs.Layout.{byte, pieces, laid, source}
+use Rattle.shelves.specs.Parcels.{Within, held, misfit}
 use Rattle.shelves.specs.Rings.{ring_sizes, ring_room, ring_parcels, SoundRing}
 use Rattle.shelves.proofs.Pieces.{length_pieces, lengths_of_pieces, pieces_same, pieces_push, pieces_removed}
-use Rattle.shelves.proofs.Written.{length_laid, laid_before, laid_there, laid_spare}
+use Rattle.shelves.proofs.Written.{length_laid, laid_before, laid_there}
 use Rattle.shelves.proofs.Sent.{sent_removed}
 use Rattle.shelves.proofs.Placed.{sum_upto}
-use Rattle.shelves.proofs.Stocks.{Fits, sum_held, within_append, within_remove, whole_parts}
+use Rattle.shelves.proofs.Stocks.{sum_held}
 
 pub ring_count : (bytes : List ℕ) (start : ℕ) (lengths : List ℕ) (count : ℕ) → count ≤ length lengths → length (ring_parcels bytes start lengths count) ≡ count
 ring_count bytes start lengths count h = length_pieces (byte bytes (ring_room (length bytes)) start) 0 (take count lengths) ∙ length-take-le count lengths h

@@ -1,11 +1,11 @@
 -- The outcomes of the calls on slots.
-use Rattle.std.proofs.Common.{◌≡◌, ℕ, zero, suc, ◌+◌, ◌-◌, ◌*◌, ◌/◌, ◌^◌, ◌<◌, ◌≤◌, min, List, [], ◌∷◌, ◌++◌, map, length, get_or, take, drop, set, Some, None, sym, refl, ap, ◌∙◌, subst, arith}
+use Rattle.std.proofs.Common.{◌≡◌, ℕ, ◌+◌, ◌-◌, ◌*◌, ◌/◌, ◌<◌, ◌≤◌, List, length, get_or, drop, set, None, sym, ap, ◌∙◌, subst, arith}
 use Rattle.std.specs.List.{remove}
 use Rattle.shelves.specs.Layout.{byte, laid, source}
 use Rattle.shelves.specs.Parcels.{Within, held, misfit, append_refusal, after_append, remove_refusal, after_remove}
 use Rattle.shelves.specs.Slotted.{slot_size, slot_count, slot_sizes, slot_room, slot_parcels, Disjoint, SoundSlots}
 use Rattle.shelves.proofs.Written.{length_laid}
-use Rattle.shelves.proofs.Stocks.{Fits, misfit_none, whole_parts, within_append, within_remove, append_taken, remove_answer, remove_taken}
+use Rattle.shelves.proofs.Stocks.{misfit_none, whole_parts, within_append, within_remove, append_taken, remove_answer, remove_taken}
 use Rattle.shelves.proofs.SlotLaws.{slots_count, slots_few, slots_refusal, slots_appended, slots_spare, slotted_removed, disjoint_sent}
 
 -- a parcel was taken

@@ -1,9 +1,9 @@
 -- How many slots there are, and where they lie.
-use Rattle.std.proofs.Common.{◌≡◌, ℕ, zero, suc, ◌+◌, ◌-◌, ◌*◌, ◌/◌, ◌<◌, ◌≤◌, min, max, ◌⊎◌, List, [], ◌∷◌, length, get_or, set, sym, refl, ap, ◌∙◌, inl, inr, ⊎_elim, mul-le-mul_right, suc-mul, div-mul-le_self, arith}
+use Rattle.std.proofs.Common.{◌≡◌, ℕ, ◌+◌, ◌*◌, ◌/◌, ◌<◌, ◌≤◌, min, List, length, get_or, set, sym, ap, ◌∙◌, inl, inr, ⊎_elim, mul-le-mul_right, suc-mul, div-mul-le_self, arith}
 use native.Mathlib.Nat.{div-div-eq-div-mul}
 use Rattle.std.proofs.lemmas.List.{get_or-set_same, get_or-set_other}
 use Rattle.std.proofs.lemmas.Bool.{cases_order, cases_eq}
-use Rattle.shelves.specs.Parcels.{Sizes, misfit}
+use Rattle.shelves.specs.Parcels.{misfit}
 use Rattle.shelves.specs.Slotted.{slot_size, slot_count, slot_sizes, slot_room, Disjoint}
 
 pub count_is : (n size k m : ℕ) → k ≡ slot_size size → m ≡ min (n / 24 / k) 128 → m ≡ slot_count n size

@@ -1,5 +1,5 @@
 -- Slots: parcels that lie each in a slot of its own, all of one size, in lent memory.
-use Rattle.std.specs.Prelude.{◌≡◌, ℕ, ◌+◌, ◌*◌, ◌/◌, ◌<◌, ◌≤◌, min, max, ◌⊎◌, List, map, length, ◌≢◌, slice_index}
+use Rattle.std.specs.Prelude.{ℕ, ◌+◌, ◌*◌, ◌/◌, ◌<◌, ◌≤◌, min, max, ◌⊎◌, List, map, length, ◌≢◌, slice_index}
 use Rattle.std.specs.List.{range_with_len}
 use Rattle.shelves.specs.Layout.{byte}
 use Rattle.shelves.specs.Parcels.{Sizes, Within}

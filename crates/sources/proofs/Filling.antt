@@ -1,8 +1,7 @@
 -- A group written record by record.
-use Rattle.std.proofs.Common.{◌≡◌, ℕ, zero, suc, ◌+◌, ◌-◌, ◌*◌, ◌/◌, ◌^◌, ◌<◌, ◌≤◌, cond, ltb, List, [], ◌∷◌, ◌++◌, map, length, get_or, take, drop, Some, None, Ok, Err, Option, sym, refl, ap, ◌∙◌, ap₂, inl, inr, append_assoc, arith, length-append, length-drop, length-take, take_all, drop-drop, take_at}
+use Rattle.std.proofs.Common.{◌≡◌, ℕ, zero, suc, ◌+◌, ◌-◌, ◌*◌, ◌/◌, ◌<◌, ◌≤◌, ltb, List, [], ◌∷◌, ◌++◌, map, length, get_or, take, drop, Some, None, Ok, Err, sym, ap, ◌∙◌, ap₂, inl, inr, append_assoc, arith, length-append, length-drop, length-take, take_all, drop-drop, take_at}
 use lib.Seq.{drop-append-add}
 use Rattle.std.specs.List.{slice_get, flat_map}
-use Rattle.std.specs.Option.{option_map}
 use Rattle.std.proofs.lemmas.List.{take_more, length-map}
 use Rattle.std.proofs.lemmas.Option.{slice_get-get_or, slice_get_past}
 use Rattle.std.proofs.lemmas.Bool.{cases_lt, cond-true, cond-false, lt-ltb, le-ltb}
@@ -16,7 +15,7 @@ use Rattle.records.specs.declared.record.Record.TheVariants.{Entry as of_entry, 
 use Rattle.reading.specs.Reading.{item_in}
 use Rattle.records.specs.Records.{encoded}
 use Rattle.records.specs.Written.{entry_record, records_for, record_count, written, with_record, in_front, too_short, write_answer, write_memory}
-use Rattle.reading.proofs.ReadBack.{joined_append, length_encoded, length_records, length_written}
+use Rattle.reading.proofs.ReadBack.{joined_append, length_encoded}
 use Rattle.sources.proofs.Lists.{nth_front, nth_rest}
 
 -- these records in front, the rest as it was

@@ -1,27 +1,24 @@
 -- A group that was read is laid out in its bytes.
-use Rattle.std.proofs.Common.{◌≡◌, ℕ, zero, suc, ◌+◌, ◌-◌, ◌*◌, ◌/◌, ◌^◌, ◌<◌, ◌≤◌, Bool, true, false, cond, ltb, List, [], ◌∷◌, ◌++◌, map, length, take, drop, replicate, is_some, Some, None, Ok, Err, Option, Result, sym, refl, ap, ◌∙◌, subst, inl, inr, arith, length-append}
+use Rattle.std.proofs.Common.{◌≡◌, ℕ, zero, suc, ◌+◌, ◌-◌, ◌*◌, ◌/◌, ◌^◌, ◌<◌, ◌≤◌, Bool, true, false, cond, ltb, List, [], ◌∷◌, ◌++◌, map, length, take, drop, replicate, is_some, Some, Ok, Err, Option, sym, refl, ap, ◌∙◌, subst, inl, inr, arith}
 use Rattle.std.specs.List.{slice_get}
 use Rattle.std.proofs.lemmas.List.{length-map}
 use Rattle.std.proofs.lemmas.Bool.{cases_order, cond-true, lt-ltb, ltb-false, false≢true}
-use Rattle.refusals.specs.declared.Refusal.{Refusal}
 use Rattle.causal.specs.declared.runs.Run.{Run}
 use Rattle.kinds.specs.Kinds.{ValueKind}
 use Rattle.stores.specs.Items.{Item}
-use Rattle.groups.specs.Groups.{Group, Formed}
+use Rattle.groups.specs.Groups.{Group}
 use Rattle.reading.specs.declared.faults.GroupFault.{GroupFault}
-use Rattle.records.specs.declared.record.GroupSummary.{GroupSummary}
 use Rattle.records.specs.declared.record.Origin.{Origin}
-use Rattle.records.specs.declared.record.PartEntry.{PartEntry}
 use Rattle.records.specs.declared.record.Record.{Record}
-use Rattle.records.specs.declared.record.Record.TheVariants.{Entry as of_entry, Run as of_run, Origin as of_origin}
+use Rattle.records.specs.declared.record.Record.TheVariants.{Run as of_run, Origin as of_origin}
 use Rattle.reading.specs.Faults.{trailing_records, refusal_of}
-use Rattle.reading.specs.Reading.{item_in, Reading, faulty, complete, first_group, alone, parcel_group, summary}
-use Rattle.records.specs.Records.{decoded, record_at}
+use Rattle.reading.specs.Reading.{Reading, faulty, complete, first_group, alone, parcel_group, summary}
+use Rattle.records.specs.Records.{decoded}
 use Rattle.records.specs.Written.{entry_record, records_for, record_count}
 use Rattle.reading.proofs.ReadBack.{length_records}
 use Rattle.reading.proofs.Rewrites.{chunk_at, read_records, as_many, read_within, read_few, read_formed}
 use Rattle.sources.specs.Sources.{Readable}
-use Rattle.sources.specs.Layouts.{entry_part, run_part, item_then, run_then, items_in, runs_in, group_in, Laid, record_in}
+use Rattle.sources.specs.Layouts.{entry_part, run_part, item_then, run_then, items_in, runs_in, group_in, record_in}
 use Rattle.sources.specs.declared.reading.ReadGroup.{ReadGroup}
 use Rattle.sources.specs.Readings.{Holds, ReadAs, Answers, HoldsParcel, LeadsWith}
 use Rattle.sources.proofs.Lists.{nth_front, nth_rest}

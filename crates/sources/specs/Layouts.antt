@@ -1,5 +1,5 @@
 -- A group laid out in records: its entries, and then its runs.
-use Rattle.std.specs.Prelude.{◌≡◌, ℕ, zero, suc, ◌+◌, ◌<◌, List, [], ◌∷◌, length, Some, None, Option}
+use Rattle.std.specs.Prelude.{◌≡◌, ℕ, zero, suc, ◌+◌, ◌<◌, List, [], ◌∷◌, Some, None, Option}
 use Rattle.causal.specs.declared.runs.Run.{Run}
 use Rattle.groups.specs.Groups.{Group}
 use Rattle.records.specs.declared.record.PartEntry.{PartEntry}

@@ -1,5 +1,5 @@
 -- What is known of a group that was read.
-use Rattle.std.specs.Prelude.{◌≡◌, ℕ, ◌<◌, Bool, true, false, List, length, is_some, Ok, Err, Option, Result}
+use Rattle.std.specs.Prelude.{◌≡◌, ℕ, ◌<◌, true, false, List, is_some, Ok, Err, Option, Result}
 use Rattle.kinds.specs.Kinds.{ValueKind}
 use Rattle.groups.specs.Groups.{Group, Formed}
 use Rattle.reading.specs.declared.faults.GroupFault.{GroupFault}

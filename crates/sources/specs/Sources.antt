@@ -7,7 +7,6 @@ use Rattle.contexts.specs.Contexts.{most_runs, runs_of}
 use Rattle.kinds.specs.Kinds.{ValueKind}
 use Rattle.causal.specs.Runs.{canonical}
 use Rattle.stores.specs.Items.{Item}
-use Rattle.stores.specs.Laws.{count_parts}
 use Rattle.stores.specs.Sound.{FewParts, Roomy, Orderly}
 use Rattle.stores.proofs.Lookups.{part_counts_add_up}
 use Rattle.stores.proofs.Walking.{counts_small}

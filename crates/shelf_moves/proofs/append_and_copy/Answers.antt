@@ -1,4 +1,4 @@
-use Rattle.std.proofs.Common.{◌≡◌, length, Some, sym, refl, ap, ◌∙◌}
+use Rattle.std.proofs.Common.{◌≡◌, length, Some, refl, ap, ◌∙◌}
 use Rattle.std.specs.List.{slice_get}
 use Rattle.shelves.specs.Parcels.{copy_answer, copy_memory, told}
 use Rattle.shelf_moves.specs.Moves.{append_and_copy_answer}

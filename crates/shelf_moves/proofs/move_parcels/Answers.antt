@@ -1,7 +1,6 @@
-use Rattle.std.proofs.Common.{◌≡◌, ◌+◌, ◌<◌, ◌≤◌, Bool, true, false, cond, ◌++◌, length, take, drop, sym, refl, ap, ◌∙◌, arith}
-use Rattle.shelves.specs.Parcels.{Sizes}
+use Rattle.std.proofs.Common.{◌≡◌, ◌<◌, true, false, cond, ◌++◌, length, take, drop, sym, refl, ap, ◌∙◌, arith}
 use Rattle.shelf_moves.specs.Moves.{first_passes}
-use Rattle.shelf_moves.proofs.MoveLaws.{OnTheWay, way_none, way_more, way_stops, way_ends}
+use Rattle.shelf_moves.proofs.MoveLaws.{way_none, way_more, way_stops, way_ends}
 use Rattle.shelf_moves.proofs.move_parcels.Goals as goal
 
 pub loop-i-init : goal.loop-i-init

@@ -1,4 +1,4 @@
-use Rattle.std.proofs.Common.{◌≡◌, ◌-◌, true, cond, ◌++◌, length, take, drop, sym, refl, ap, ◌∙◌}
+use Rattle.std.proofs.Common.{◌≡◌, ◌-◌, true, cond, ◌++◌, length, take, drop, sym, ap, ◌∙◌}
 use Rattle.shelf_moves.proofs.FirstLaws.{ok_is_none}
 use Rattle.shelf_moves.proofs.BackToEnd.{Behind, behind, others, first_fits_ok}
 use Rattle.shelf_moves.proofs.send_to_back.Goals as goal

@@ -1,4 +1,4 @@
-use Rattle.std.proofs.Common.{◌≡◌, ◌+◌, ◌<◌, ◌≤◌, length, drop, filter, sym, ap, ◌∙◌, arith}
+use Rattle.std.proofs.Common.{sym, ◌∙◌, arith}
 use Rattle.contexts.specs.Contexts.{runs_of}
 use Rattle.reading.specs.Reading.{item_in}
 use Rattle.stores.proofs.Walking.{keep_one, skip_one, keep_none, nth_within}

@@ -1,4 +1,4 @@
-use Rattle.std.proofs.Common.{◌≡◌, ◌+◌, ◌<◌, ◌≤◌, not, length, drop, filter, sym, ap, ◌∙◌, arith}
+use Rattle.std.proofs.Common.{not, filter, sym, ap, ◌∙◌, arith}
 use Rattle.stores.specs.Items.{in_part, item_at}
 use Rattle.stores.proofs.Walking.{keep_one, skip_one, keep_none, nth_within}
 use Rattle.joining.specs.Strikes.{spared}

@@ -1,4 +1,4 @@
-use Rattle.std.proofs.Common.{◌≡◌, ◌+◌, ◌<◌, ◌≤◌, length, drop, sym, ap, ◌∙◌, arith}
+use Rattle.std.proofs.Common.{◌<◌, length, sym, ◌∙◌, arith}
 use Rattle.reading.specs.Reading.{item_in}
 use Rattle.stores.proofs.Walking.{nth_within}
 use Rattle.joining.proofs.Walks.{stands_here, stands_later, stands_past}

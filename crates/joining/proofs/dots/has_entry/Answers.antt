@@ -1,4 +1,4 @@
-use Rattle.std.proofs.Common.{◌≡◌, sym, ◌∙◌}
+use Rattle.std.proofs.Common.{sym, ◌∙◌}
 use Rattle.joining.proofs.dots.has_entry.Goals as goal
 
 pub returns-then-is_listed : goal.returns-then-is_listed

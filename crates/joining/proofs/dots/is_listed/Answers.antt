@@ -1,4 +1,4 @@
-use Rattle.std.proofs.Common.{◌≡◌, ◌+◌, ◌-◌, ◌/◌, sym, ◌∙◌}
+use Rattle.std.proofs.Common.{◌+◌, ◌-◌, ◌/◌, sym}
 use Rattle.reading.specs.Reading.{item_in}
 use Rattle.joining.proofs.Walks.{nth_stands}
 use Rattle.joining.proofs.dots.is_listed.Goals as goal

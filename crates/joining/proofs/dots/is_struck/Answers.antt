@@ -1,4 +1,4 @@
-use Rattle.std.proofs.Common.{◌≡◌, sym, ap, ◌∙◌}
+use Rattle.std.proofs.Common.{sym, ap, ◌∙◌}
 use Rattle.causal.specs.Runs.{has}
 use Rattle.joining.proofs.Struck.{struck_known, struck_unknown}
 use Rattle.joining.proofs.dots.is_struck.Goals as goal

@@ -1,4 +1,4 @@
-use Rattle.std.proofs.Common.{◌≡◌, sym, ◌∙◌}
+use Rattle.std.proofs.Common.{sym, ◌∙◌}
 use Rattle.stores.specs.Items.{item_at}
 use Rattle.joining.proofs.EnterSteps.{held_told}
 use Rattle.joining.proofs.entering.is_held.Goals as goal

@@ -1,4 +1,4 @@
-use Rattle.std.proofs.Common.{◌≡◌, ◌+◌, ◌-◌, ◌/◌, filter, sym, ◌∙◌}
+use Rattle.std.proofs.Common.{◌+◌, ◌-◌, ◌/◌, filter, sym}
 use Rattle.stores.specs.Items.{item_at, in_part}
 use Rattle.joining.proofs.Walks.{nth_stands, kept_stands}
 use Rattle.joining.proofs.entering.is_held_in_place.Goals as goal

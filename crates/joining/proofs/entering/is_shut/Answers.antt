@@ -1,4 +1,4 @@
-use Rattle.std.proofs.Common.{◌≡◌, sym, ◌∙◌}
+use Rattle.std.proofs.Common.{sym, ◌∙◌}
 use Rattle.contexts.specs.Contexts.{runs_of}
 use Rattle.joining.proofs.EnterSteps.{shut_told, unshut_told}
 use Rattle.joining.proofs.entering.is_shut.Goals as goal

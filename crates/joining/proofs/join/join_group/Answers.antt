@@ -1,11 +1,10 @@
-use Rattle.std.proofs.Common.{◌≡◌, ℕ, ◌≤◌, get_or, None, Option, sym, ap, ◌∙◌, subst}
+use Rattle.std.proofs.Common.{◌≡◌, ℕ, ◌≤◌, get_or, None, sym, ap, ◌∙◌, subst}
 use Rattle.contexts.specs.Contexts.{runs_of}
 use Rattle.groups.specs.Groups.{joined}
 use Rattle.stores.specs.Items.{count_part}
 use Rattle.joining.specs.Questions.{book, overfull}
 use Rattle.joining.specs.Entering.{enter_all}
 use Rattle.joining.specs.Strikes.{remaining}
-use Rattle.joining.specs.Outcomes.{outcome_refusal}
 use Rattle.joining.proofs.Finish.{union_made, nothing_wrong, entering_room, joined_after}
 use Rattle.joining.proofs.join.join_group.Goals as goal
 

@@ -1,4 +1,4 @@
-use Rattle.std.proofs.Common.{◌≡◌, ◌+◌, ◌<◌, ◌≤◌, length, sym, ap, ◌∙◌, arith}
+use Rattle.std.proofs.Common.{◌<◌, length, sym, ◌∙◌, arith}
 use Rattle.reading.specs.Reading.{item_in}
 use Rattle.stores.proofs.Walking.{nth_within}
 use Rattle.joining.proofs.CountSteps.{elsewhere_here, elsewhere_later, elsewhere_past}

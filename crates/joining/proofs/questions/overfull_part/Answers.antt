@@ -1,7 +1,6 @@
-use Rattle.std.proofs.Common.{◌≡◌, ◌+◌, ◌<◌, ◌≤◌, length, get_or, sym, ap, ◌∙◌, arith}
+use Rattle.std.proofs.Common.{length, ◌∙◌, arith}
 use Rattle.contexts.specs.Contexts.{runs_of}
 use Rattle.groups.specs.Groups.{joined}
-use Rattle.stores.specs.Items.{count_part}
 use Rattle.joining.specs.Questions.{book}
 use Rattle.joining.proofs.CountSteps.{count_joined, overfull_here, overfull_later, overfull_past, capacity_small}
 use Rattle.joining.proofs.questions.overfull_part.Goals as goal

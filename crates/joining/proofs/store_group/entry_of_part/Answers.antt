@@ -1,4 +1,4 @@
-use Rattle.std.proofs.Common.{◌≡◌, ◌≤◌, length, sym, ap, ◌∙◌, arith}
+use Rattle.std.proofs.Common.{length, arith}
 use Rattle.stores.proofs.Stays.{all_placed}
 use Rattle.joining.proofs.Parts.{part_empty}
 use Rattle.joining.proofs.store_group.entry_of_part.Goals as goal

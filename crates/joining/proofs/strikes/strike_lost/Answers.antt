@@ -1,7 +1,7 @@
-use Rattle.std.proofs.Common.{◌≡◌, ℕ, ◌+◌, ◌<◌, ◌≤◌, length, sym, ap, ◌∙◌, subst, inl, inr, arith}
+use Rattle.std.proofs.Common.{◌≡◌, length, sym, ◌∙◌, subst, inl, inr, arith}
 use Rattle.std.proofs.lemmas.Bool.{cases_lt}
 use Rattle.stores.proofs.Stays.{all_placed}
-use Rattle.joining.specs.Strikes.{remaining, Unstruck}
+use Rattle.joining.specs.Strikes.{Unstruck}
 use Rattle.joining.proofs.Struck.{all_free, remaining_free}
 use Rattle.joining.proofs.strikes.strike_lost.Goals as goal
 

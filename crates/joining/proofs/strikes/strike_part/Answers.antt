@@ -1,4 +1,4 @@
-use Rattle.std.proofs.Common.{◌≡◌, ◌-◌, ◌≤◌, length, drop, filter, sym, refl, ap, ◌∙◌, subst, arith}
+use Rattle.std.proofs.Common.{◌-◌, drop, filter, sym, refl, ap, ◌∙◌, subst, arith}
 use Rattle.stores.specs.Items.{in_part, item_at}
 use Rattle.joining.specs.Strikes.{remaining, Unstruck}
 use Rattle.joining.proofs.Struck.{Free, strike_one, unstruck_strike, turn_struck, turn_spared, free_past, free_end, step_down, drop_zero}

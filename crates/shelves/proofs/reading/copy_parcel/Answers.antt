@@ -1,4 +1,4 @@
-use Rattle.std.proofs.Common.{◌≡◌, ◌++◌, length, drop, sym, ap, ◌∙◌}
+use Rattle.std.proofs.Common.{length, sym, ap, ◌∙◌}
 use Rattle.shelves.specs.Layout.{byte}
 use Rattle.shelves.specs.Parcels.{copy_answer, copy_memory}
 use Rattle.shelves.specs.Extents.{parcel_in}

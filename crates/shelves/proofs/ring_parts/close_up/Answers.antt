@@ -1,5 +1,5 @@
-use Rattle.std.proofs.Common.{◌≡◌, ◌+◌, ◌-◌, ◌≤◌, drop, sym, refl, ap, ◌∙◌, arith}
-use Rattle.shelves.specs.Layout.{byte, slid, turn}
+use Rattle.std.proofs.Common.{◌≡◌, ◌+◌, ◌-◌, drop, refl, ap, ◌∙◌, arith}
+use Rattle.shelves.specs.Layout.{byte, slid}
 use Rattle.shelves.proofs.Turns.{turn_upto}
 use Rattle.shelves.proofs.Written.{closed_front, closed_middle, slid_spare}
 use Rattle.shelves.proofs.ring_parts.close_up.Goals as goal

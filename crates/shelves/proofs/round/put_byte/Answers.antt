@@ -1,4 +1,4 @@
-use Rattle.std.proofs.Common.{◌≡◌, set, sym, ap, ◌∙◌, arith}
+use Rattle.std.proofs.Common.{sym, arith}
 use Rattle.std.proofs.lemmas.List.{set_past}
 use Rattle.shelves.specs.Layout.{turn}
 use Rattle.shelves.proofs.round.put_byte.Goals as goal

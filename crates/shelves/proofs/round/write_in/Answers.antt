@@ -1,4 +1,4 @@
-use Rattle.std.proofs.Common.{◌≡◌, ◌+◌, get_or, drop, set, sym, refl, ap, ◌∙◌, arith}
+use Rattle.std.proofs.Common.{◌+◌, get_or, drop, sym, refl, ap, ◌∙◌, arith}
 use Rattle.shelves.specs.Layout.{laid}
 use Rattle.shelves.proofs.Fills.{laid_more, laid_all}
 use Rattle.shelves.proofs.round.write_in.Goals as goal

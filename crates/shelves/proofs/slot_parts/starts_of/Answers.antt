@@ -1,6 +1,6 @@
-use Rattle.std.proofs.Common.{◌≡◌, ◌+◌, ◌*◌, ◌<◌, ◌≤◌, length, sym, ap, ◌∙◌, subst, mul-le-mul_right, arith}
+use Rattle.std.proofs.Common.{◌≡◌, ◌*◌, ap, ◌∙◌, arith}
 use Rattle.std.proofs.lemmas.List.{length-set}
-use Rattle.shelves.specs.Slotted.{slot_count, slot_size, Disjoint}
+use Rattle.shelves.specs.Slotted.{slot_count, slot_size}
 use Rattle.shelves.proofs.SlotSizes.{room_fits, slot_ends, laid_out, lay_more}
 use Rattle.shelves.proofs.slot_parts.starts_of.Goals as goal
 

@@ -1,4 +1,4 @@
-use Rattle.std.proofs.Common.{◌≡◌, ◌-◌, ◌/◌, ◌^◌, ◌<◌, length, sym, refl, ap, ◌∙◌, arith}
+use Rattle.std.proofs.Common.{◌≡◌, ◌/◌, ◌^◌, ◌<◌, length, refl, ap, arith}
 use Rattle.sources.proofs.ReadGroups.{holds_parcel}
 use Rattle.sources.proofs.laid_group.lay_out.Goals as goal
 

@@ -1,4 +1,4 @@
-use Rattle.std.proofs.Common.{◌≡◌, ℕ, ◌<◌, ◌≤◌, Bool, true, false, not, is_some, sym, ap, ◌∙◌, arith, below_more}
+use Rattle.std.proofs.Common.{◌≡◌, true, not, is_some, sym, ap, ◌∙◌, arith, below_more}
 use Rattle.records.specs.Records.{decoded}
 use Rattle.sources.specs.Layouts.{entry_part, record_in}
 use Rattle.sources.proofs.laid_group.leading_entries.Goals as goal

@@ -1,4 +1,4 @@
-use Rattle.std.proofs.Common.{◌≡◌, ◌^◌, ◌<◌, length, Ok, refl, ap, ◌∙◌, arith}
+use Rattle.std.proofs.Common.{◌^◌, ◌<◌, length, Ok, refl, ap, ◌∙◌, arith}
 use Rattle.reading.specs.Reading.{first_group}
 use Rattle.sources.proofs.ReadGroups.{first_answers}
 use Rattle.sources.proofs.reading.journal_group.Goals as goal

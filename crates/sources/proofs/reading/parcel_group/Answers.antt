@@ -1,4 +1,4 @@
-use Rattle.std.proofs.Common.{◌≡◌, ◌^◌, ◌<◌, length, Ok, refl, ap, ◌∙◌, arith}
+use Rattle.std.proofs.Common.{◌^◌, ◌<◌, length, Ok, refl, ap, ◌∙◌, arith}
 use Rattle.reading.specs.Reading.{parcel_group}
 use Rattle.sources.proofs.ReadGroups.{parcel_answers}
 use Rattle.sources.proofs.reading.parcel_group.Goals as goal

@@ -1,6 +1,5 @@
-use Rattle.std.proofs.Common.{◌≡◌, ◌+◌, ◌-◌, ◌<◌, ◌≤◌, length, filter, sym, ap, ◌∙◌, arith}
+use Rattle.std.proofs.Common.{◌≡◌, ◌+◌, ◌-◌, length, sym, ap, ◌∙◌, arith}
 use Rattle.std.specs.List.{slice_get}
-use Rattle.stores.specs.Items.{in_part}
 use Rattle.stores.proofs.Stays.{all_placed}
 use Rattle.sources.proofs.Parts.{from_part, from_none, from_end, in_this_part, in_later_part}
 use Rattle.sources.proofs.store_group.entry_in_order.Goals as goal

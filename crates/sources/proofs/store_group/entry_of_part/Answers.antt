@@ -1,4 +1,4 @@
-use Rattle.std.proofs.Common.{◌≡◌, ◌≤◌, length, sym, ap, ◌∙◌, arith}
+use Rattle.std.proofs.Common.{length, arith}
 use Rattle.stores.proofs.Stays.{all_placed}
 use Rattle.sources.proofs.Parts.{part_empty}
 use Rattle.sources.proofs.store_group.entry_of_part.Goals as goal

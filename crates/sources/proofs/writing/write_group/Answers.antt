@@ -1,4 +1,4 @@
-use Rattle.std.proofs.Common.{◌≡◌, ◌<◌, sym, ap, ◌∙◌, arith}
+use Rattle.std.proofs.Common.{◌<◌, sym, ap, ◌∙◌, arith}
 use Rattle.records.specs.Written.{records_for, record_count, written, with_record}
 use Rattle.reading.proofs.ReadBack.{length_records, length_written}
 use Rattle.sources.proofs.Filling.{fill_next, fill_all, no_room, room}

@@ -1,4 +1,4 @@
-use Rattle.std.proofs.Common.{◌≡◌, length, take}
+use Rattle.std.proofs.Common.{◌≡◌, take}
 use Rattle.records.specs.Written.{records_for}
 use Rattle.sources.proofs.Filling.{filled}
 use Rattle.sources.proofs.writing.write_group.Given as goal

@@ -1,4 +1,4 @@
-use Rattle.std.proofs.Common.{◌≡◌, arith}
+use Rattle.std.proofs.Common.{arith}
 use Rattle.sources.proofs.writing.written_length.Goals as goal
 
 pub returns : goal.returns

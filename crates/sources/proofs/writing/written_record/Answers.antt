@@ -1,4 +1,4 @@
-use Rattle.std.proofs.Common.{◌≡◌, ◌-◌, length, sym, ap, ◌∙◌, arith}
+use Rattle.std.proofs.Common.{arith}
 use Rattle.sources.proofs.Filling.{record_entry, record_run, record_origin}
 use Rattle.sources.proofs.writing.written_record.Goals as goal
 

@@ -1,5 +1,4 @@
-use Rattle.std.proofs.Common.{◌≡◌, ℕ, ◌+◌, max, get_or, drop, arith}
-use Rattle.causal.specs.Runs.{highest, run}
+use Rattle.std.proofs.Common.{arith}
 use Rattle.contexts.proofs.RunWalks.{highest_same, highest_other, highest_none}
 use Rattle.contexts.proofs.context.questions.highest_among.Goals as goal
 use Rattle.contexts.proofs.context.questions.highest_among.Goals.{then-run-replica+then-run-best, else-run-replica, else-run-replica-via-then-run-replica+else-run-best, else-run-replica-via-else-run-replica}

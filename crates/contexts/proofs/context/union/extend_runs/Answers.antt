@@ -1,4 +1,4 @@
-use Rattle.std.proofs.Common.{arith, rules}
+use Rattle.std.proofs.Common.{arith}
 use Rattle.contexts.proofs.Merges.{stretches, stands_apart, stands_first}
 use Rattle.contexts.proofs.context.union.extend_runs.Goals as goal
 use Rattle.contexts.proofs.context.union.extend_runs.Goals.{then-count-gt0+else-not-ends_before, else-count-gt0}

@@ -1,8 +1,7 @@
-use Rattle.std.proofs.Common.{◌≡◌, ℕ, ◌+◌, ◌<◌, ◌≤◌, Bool, true, false, List, [], ◌∷◌, length, get_or, drop, sym, ap, ◌∙◌, ap₂}
+use Rattle.std.proofs.Common.{◌+◌, [], ◌∷◌, length, get_or, drop, sym, ◌∙◌}
 use Rattle.std.proofs.lemmas.List.{at_drop_more, at_drop_all}
 use Rattle.std.proofs.lemmas.Bool.{le-leb}
-use Rattle.causal.specs.declared.runs.Run.{Run}
-use Rattle.contexts.specs.Merging.{left_next, starts_by}
+use Rattle.contexts.specs.Merging.{left_next}
 use Rattle.causal.specs.Runs.{run}
 use Rattle.contexts.proofs.context.union.left_is_next.Goals as goal
 

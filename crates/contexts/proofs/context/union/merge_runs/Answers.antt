@@ -1,5 +1,4 @@
-use Rattle.std.proofs.Common.{◌≡◌, ◌+◌, ◌<◌, ◌⊎◌, length, get_or, take, drop, sym, subst, inl, inr, arith}
-use Rattle.causal.specs.Runs.{run}
+use Rattle.std.proofs.Common.{◌+◌, ◌<◌, length, take, drop, sym, subst, inl, inr, arith}
 use Rattle.contexts.proofs.Merges.{Merging, starts_at, step_left, step_right, ends_at, index_left, index_right}
 use Rattle.contexts.proofs.context.union.merge_runs.Goals as goal
 use Rattle.contexts.proofs.context.union.merge_runs.Goals.{Else-left_is_next, then-i-xs, else-i-xs+then-j-ys}

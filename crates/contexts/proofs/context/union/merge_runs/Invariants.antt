@@ -1,4 +1,4 @@
-use Rattle.std.proofs.Common.{◌≡◌, ◌+◌, ◌-◌, ◌≤◌, length, take, drop}
+use Rattle.std.proofs.Common.{◌+◌, ◌-◌, ◌≤◌, length, take, drop}
 use Rattle.contexts.proofs.Merges.{Merging}
 use Rattle.contexts.proofs.context.union.merge_runs.Given as goal
 

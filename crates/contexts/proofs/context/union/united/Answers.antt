@@ -1,4 +1,4 @@
-use Rattle.std.proofs.Common.{◌≡◌, ap, ◌∙◌, arith}
+use Rattle.std.proofs.Common.{ap, ◌∙◌, arith}
 use Rattle.causal.specs.Runs.{canonical}
 use Rattle.causal.proofs.RunSets.{union_stays_canonical}
 use Rattle.contexts.proofs.context.union.united.Goals as goal

@@ -1,9 +1,9 @@
-use Rattle.std.proofs.Common.{◌≡◌, ◌+◌, ◌^◌, ◌<◌, ◌≤◌, min, sym, ap, ◌∙◌, arith}
-use Rattle.joining.specs.Layouts.{record_in, entry_part, run_part}
+use Rattle.std.proofs.Common.{ap, ◌∙◌, arith}
+use Rattle.joining.specs.Layouts.{record_in, entry_part}
 use Rattle.std.specs.Option.{option_map}
 use Rattle.reading.specs.Reading.{item_in}
 use Rattle.records.specs.Records.{decoded}
-use Rattle.joining.proofs.LaidOut.{laid_entries, laid_runs, laid_entry, laid_run, no_entry, no_run}
+use Rattle.joining.proofs.LaidOut.{laid_entry, no_entry}
 use Rattle.joining.proofs.group_bytes.GroupBytesGroupSource.entry_at.Goals as goal
 
 pub returns-then-index-self : goal.returns-then-index-self

@@ -1,4 +1,4 @@
-use Rattle.std.proofs.Common.{◌≡◌, sym, refl, ◌∙◌}
+use Rattle.std.proofs.Common.{refl, ◌∙◌}
 use Rattle.reading.specs.Stands.{stand_of}
 use Rattle.reading.proofs.Stepping.{next_good}
 use Rattle.reading.proofs.reader.GroupReader.next_record.Goals as goal

@@ -1,4 +1,4 @@
-use Rattle.std.proofs.Common.{◌≡◌, sym, ap, ◌∙◌, rules}
+use Rattle.std.proofs.Common.{sym, ap, ◌∙◌, rules}
 use Rattle.records.specs.Records.{decoded}
 use Rattle.reading.specs.Stands.{stand_of}
 use Rattle.reading.proofs.Stepping.{fault_within, found_there}

@@ -1,4 +1,4 @@
-use Rattle.std.proofs.Common.{◌≡◌, sym, ◌∙◌}
+use Rattle.std.proofs.Common.{sym, ◌∙◌}
 use Rattle.contexts.specs.Contexts.{runs_of}
 use Rattle.reading.specs.Stands.{dot_at}
 use Rattle.reading.proofs.Dots.{stray_later, stray_here, passes_at, fails_unknown, fails_seen}

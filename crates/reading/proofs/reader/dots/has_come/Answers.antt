@@ -1,4 +1,4 @@
-use Rattle.std.proofs.Common.{◌≡◌, sym, ◌∙◌}
+use Rattle.std.proofs.Common.{sym, ◌∙◌}
 use Rattle.reading.specs.Stands.{dots_at}
 use Rattle.reading.proofs.Seen.{not_come}
 use Rattle.reading.proofs.reader.dots.has_come.Goals as goal

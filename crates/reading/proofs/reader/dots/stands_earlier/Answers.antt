@@ -1,4 +1,4 @@
-use Rattle.std.proofs.Common.{◌≡◌, sym, ap, ◌∙◌}
+use Rattle.std.proofs.Common.{sym, ap, ◌∙◌}
 use Rattle.causal.specs.Dots.{same_dot}
 use Rattle.reading.specs.Stands.{dot_at}
 use Rattle.reading.proofs.Dots.{among_here, among_later, among_none}

@@ -1,4 +1,4 @@
-use Rattle.std.proofs.Common.{◌≡◌, ap, ◌∙◌}
+use Rattle.std.proofs.Common.{ap, ◌∙◌}
 use Rattle.reading.specs.Seen.{is_set}
 use Rattle.reading.proofs.Seen.{tested}
 use Rattle.reading.proofs.reader.seen.may_have_come.Goals as goal

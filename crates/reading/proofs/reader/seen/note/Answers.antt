@@ -1,4 +1,4 @@
-use Rattle.std.proofs.Common.{◌≡◌, ◌/◌, ◌<◌, true, length, sym, ap, ◌∙◌, subst, arith}
+use Rattle.std.proofs.Common.{◌/◌, ◌<◌, length, sym, ap, ◌∙◌, arith}
 use Rattle.reading.specs.Seen.{is_set}
 use Rattle.reading.proofs.Seen.{note_sets, note_keeps}
 use Rattle.reading.proofs.reader.seen.note.Goals as goal

@@ -1,6 +1,6 @@
-use Rattle.std.proofs.Common.{◌≡◌, ◌/◌, ◌^◌, ◌<◌, length, sym, refl, ap, ◌∙◌, arith, rules}
+use Rattle.std.proofs.Common.{◌≡◌, ◌/◌, ◌^◌, ◌<◌, length, sym, refl, ap, ◌∙◌, rules}
 use Rattle.shelves.specs.Rings.{ring_sizes, ring_parcels, SoundRing}
-use Rattle.shelves.specs.Parcels.{held, shelf_fault}
+use Rattle.shelves.specs.Parcels.{shelf_fault}
 use Rattle.shelves.proofs.RingLaws.{ring_used, ring_refusal}
 use Rattle.shelves.proofs.RingCalls.{RingTook, ring_took}
 use Rattle.shelves.proofs.Stocks.{append_refused}

@@ -1,4 +1,4 @@
-use Rattle.std.proofs.Common.{◌≡◌, ◌-◌, ◌^◌, ◌<◌, ◌≤◌, min, length, take, sum, sym, refl, ap, ◌∙◌, arith, rules}
+use Rattle.std.proofs.Common.{◌-◌, ◌^◌, ◌<◌, ◌≤◌, min, length, take, sum, sym, refl, ap, ◌∙◌, arith, rules}
 use Rattle.shelves.specs.Layout.{byte}
 use Rattle.shelves.specs.Rings.{ring_sizes, ring_room, ring_parcels, SoundRing}
 use Rattle.shelves.proofs.RingLaws.{ring_fits}

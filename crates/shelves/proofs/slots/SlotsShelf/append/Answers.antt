@@ -1,5 +1,5 @@
 use Rattle.std.proofs.Common.{◌≡◌, ◌+◌, ◌*◌, ◌/◌, ◌^◌, ◌<◌, ◌≤◌, length, get_or, Some, None, sym, refl, ap, ◌∙◌, arith, rules}
-use Rattle.shelves.specs.Slotted.{slot_sizes, slot_count, slot_size, slot_room, slot_parcels, SoundSlots}
+use Rattle.shelves.specs.Slotted.{slot_sizes, slot_size, slot_room, slot_parcels, SoundSlots}
 use Rattle.shelves.specs.Parcels.{misfit, held, shelf_fault}
 use Rattle.shelves.proofs.SlotSizes.{same_misfit, room_within}
 use Rattle.shelves.proofs.SlotLaws.{slots_few, slots_used, slots_refusal}

@@ -1,7 +1,6 @@
-use Rattle.std.proofs.Common.{◌≡◌, ◌^◌, ◌<◌, ◌≤◌, length, ap, ◌∙◌, arith, rules}
+use Rattle.std.proofs.Common.{◌≡◌, ◌^◌, ◌<◌, length, ap, ◌∙◌, arith, rules}
 use Rattle.shelves.specs.Layout.{byte}
-use Rattle.shelves.specs.Parcels.{length_of, record_of, copy_answer, copy_memory}
-use Rattle.shelves.specs.Slotted.{SoundSlots}
+use Rattle.shelves.specs.Parcels.{record_of}
 use Rattle.shelves.proofs.SlotLaws.{slots_few, slots_reach}
 use Rattle.shelves.proofs.slots.SlotsShelf.record_at.Goals as goal
 

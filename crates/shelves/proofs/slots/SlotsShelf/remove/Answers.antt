@@ -1,4 +1,4 @@
-use Rattle.std.proofs.Common.{◌≡◌, ◌≤◌, length, sym, refl, ⊎_elim, arith}
+use Rattle.std.proofs.Common.{◌≤◌, length, sym, refl, ⊎_elim, arith}
 use Rattle.shelves.specs.Slotted.{slot_parcels, SoundSlots}
 use Rattle.shelves.proofs.SlotLaws.{slots_few, slots_count}
 use Rattle.shelves.proofs.SlotCalls.{SlotsGave, slots_gave}

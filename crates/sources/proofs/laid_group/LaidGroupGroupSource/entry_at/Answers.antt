@@ -1,8 +1,8 @@
-use Rattle.std.proofs.Common.{◌≡◌, ap, ◌∙◌, arith}
+use Rattle.std.proofs.Common.{ap, ◌∙◌, arith}
 use Rattle.std.specs.Option.{option_map}
 use Rattle.reading.specs.Reading.{item_in}
 use Rattle.records.specs.Records.{decoded}
-use Rattle.sources.specs.Layouts.{record_in, entry_part, run_part}
+use Rattle.sources.specs.Layouts.{record_in, entry_part}
 use Rattle.sources.proofs.LaidOut.{laid_entry, no_entry}
 use Rattle.sources.proofs.laid_group.LaidGroupGroupSource.entry_at.Goals as goal
 

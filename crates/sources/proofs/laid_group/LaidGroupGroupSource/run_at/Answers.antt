@@ -1,8 +1,6 @@
-use Rattle.std.proofs.Common.{◌≡◌, ap, ◌∙◌, arith}
-use Rattle.std.specs.Option.{option_map}
-use Rattle.reading.specs.Reading.{item_in}
+use Rattle.std.proofs.Common.{ap, ◌∙◌, arith}
 use Rattle.records.specs.Records.{decoded}
-use Rattle.sources.specs.Layouts.{record_in, entry_part, run_part}
+use Rattle.sources.specs.Layouts.{record_in, run_part}
 use Rattle.sources.proofs.LaidOut.{laid_entries, laid_runs, laid_run, no_run}
 use Rattle.sources.proofs.laid_group.LaidGroupGroupSource.run_at.Goals as goal
 

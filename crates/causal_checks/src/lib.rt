@@ -2,6 +2,6 @@
 #![tactic(auto)]
 
 #[cfg(test)]
-mod contexts;
+mod context_checks;
 #[cfg(test)]
 mod values;

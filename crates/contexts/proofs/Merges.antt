@@ -1,6 +1,6 @@
 -- A merge of two canonical lists gives their union.
 use Rattle.std.proofs.Common.{◌≡◌, ℕ, ◌+◌, ◌-◌, ◌<◌, ◌≤◌, min, max, Bool, true, false, cond, ◌||◌, ◌⊎◌, List, [], ◌∷◌, ◌++◌, length, get_or, take, drop, set, sym, refl, ap, ◌∙◌, subst, ⊎_elim, arith}
-use Rattle.std.specs.List.{AllByRecursion as All}
+use Rattle.std.specs.List.{AllByRecursion}
 use Rattle.std.proofs.lemmas.Bool.Decides.{nat_tests}
 use Rattle.std.proofs.lemmas.List.{at_drop_more, at_drop_all, take_more, take_more_set, append_assoc}
 use Rattle.std.proofs.lemmas.Bool.{cases_lt, false≢true}
@@ -45,7 +45,7 @@ hull_stretched r s e f =
     λ i. record { replica = p i; first = q i; last = m i }
 
 abbrev pub Late : List Run → Run → Type 0
-Late zs r = All (λ z. starts_by z r ≡ true) zs
+Late zs r = AllByRecursion (λ z. starts_by z r ≡ true) zs
 
 pub late_extended : (zs : List Run) (r w : Run) → Late zs r → starts_by r w ≡ true → Late (extended zs r) w
 late_extended [] r w h e = (e, tt)

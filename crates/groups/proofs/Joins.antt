@@ -1,7 +1,7 @@
 -- The join of two groups, dot by dot; and that a group is told by its fates.
 use Rattle.std.proofs.Common.{◌≡◌, ℕ, Bool, true, false, cond, ◌||◌, List, [], ◌∷◌, Some, None, fold, Option, sym, refl, ap, ◌∙◌, subst, ap₂, inl, inr}
 use Rattle.std.specs.Option.{option_or}
-use Rattle.std.specs.List.{AllByRecursion as All}
+use Rattle.std.specs.List.{AllByRecursion}
 use Rattle.std.proofs.lemmas.Bool.{both_ways, cases_Bool, cond-true, or_left, or_right}
 use Rattle.std.proofs.ByRecursion.{All-weaker}
 use Rattle.causal.specs.declared.dots.Dot.{Dot}
@@ -20,7 +20,7 @@ use Rattle.groups.proofs.Meets.{meet_recodes, proper_meet}
 use Rattle.groups.proofs.Keeps.{Absent, Recodes, bound, all_keep, keep_ascends, keep_apart, find_keep, all_inserts, Free, inserts_ascend, inserts_apart, find_inserts}
 
 -- the items of a sound store, all at known dots, are a group
-pub formed_orderly : (ks : List ValueKind) (caps : List ℕ) (g : Group) → Orderly ks caps g.items → canonical g.runs ≡ true → All (Known g.runs) g.items → Formed ks g
+pub formed_orderly : (ks : List ValueKind) (caps : List ℕ) (g : Group) → Orderly ks caps g.items → canonical g.runs ≡ true → AllByRecursion (Known g.runs) g.items → Formed ks g
 formed_orderly ks caps g o c k = record { one_form = c; ascends = o.ascends; apart = o.apart; proper = o.proper; known = k }
 
 pub found_at : (d : Dot) (xs : List Item) (x : Item) → find d xs ≡ Some x → x.dot ≡ d
@@ -31,7 +31,7 @@ pub found_known : (ks : List ValueKind) (g : Group) (d : Dot) (x : Item) → For
 found_known ks g d x fg e = ap (has g.runs) (sym (found_at d g.items x e)) ∙ found_all (Known g.runs) d g.items x fg.known e
 
 -- what it does not know it does not have
-pub unknown_absent : (rs : List Run) (d : Dot) (xs : List Item) → All (Known rs) xs → has rs d ≡ false → Absent d xs
+pub unknown_absent : (rs : List Run) (d : Dot) (xs : List Item) → AllByRecursion (Known rs) xs → has rs d ≡ false → Absent d xs
 unknown_absent rs d [] k h = tt
 unknown_absent rs d (x ∷ xs) k h = (
   elim (cases_Bool (has_dot d x)) [ inl t ↦ absurd (both_ways (has rs d) h (ap (has rs) (sym (dot_equal x.dot d t)) ∙ k.0)) | inr f ↦ f ],
@@ -73,7 +73,7 @@ module _ (ks : List ValueKind) where
     coming_apart : Apart coming
     coming_apart = keep_apart (comes g) (comes_same g) h.items fh.apart
 
-    staying_known : All (Known g.runs) staying
+    staying_known : AllByRecursion (Known g.runs) staying
     staying_known = all_keep (stays ks h) (Known g.runs) (Known g.runs) (λ x y e k. ap (λ z. has g.runs z.dot) (stays_same h x y e) ∙ k) g.items fg.known
 
     coming_free : Free staying coming
@@ -144,11 +144,11 @@ module _ (ks : List ValueKind) where
   pub empty_formed : Formed ks empty
   empty_formed = record { one_form = refl; ascends = tt; apart = tt; proper = tt; known = tt }
 
-  pub onto_formed : (g : Group) (gs : List Group) → Formed ks g → All (Formed ks) gs → Formed ks (fold (joined ks) g gs)
+  pub onto_formed : (g : Group) (gs : List Group) → Formed ks g → AllByRecursion (Formed ks) gs → Formed ks (fold (joined ks) g gs)
   onto_formed g [] fg fs = fg
   onto_formed g (h ∷ hs) fg fs = onto_formed (joined ks g h) hs (joined_formed g h fg fs.0) fs.1
 
-  pub all_formed : (gs : List Group) → All (Formed ks) gs → Formed ks (joined_all ks gs)
+  pub all_formed : (gs : List Group) → AllByRecursion (Formed ks) gs → Formed ks (joined_all ks gs)
   all_formed gs fs = onto_formed empty gs empty_formed fs
 
 -- a group is told by its fates

@@ -1,7 +1,7 @@
 -- Lists of which a part is kept, and lists inserted into lists.
 use Rattle.std.proofs.Common.{◌≡◌, true, false, cond, List, [], ◌∷◌, Some, None, Option, sym, refl, ap, ◌∙◌, ap₂, arith}
 use Rattle.std.specs.Option.{option_or}
-use Rattle.std.specs.List.{AllByRecursion as All}
+use Rattle.std.specs.List.{AllByRecursion}
 use Rattle.causal.specs.declared.dots.Dot.{Dot}
 use Rattle.stores.specs.Items.{Item, recode, precedes, has_dot, stands, find, Ascends, Apart}
 use Rattle.groups.specs.Groups.{lead, keep, insert_items}
@@ -12,7 +12,7 @@ use Rattle.stores.proofs.Lookups.{find_absent, find_first, find_insert}
 
 -- no item of the list has the dot
 abbrev pub Absent : Dot → List Item → Type 0
-Absent d xs = All (λ x. has_dot d x ≡ false) xs
+Absent d xs = AllByRecursion (λ x. has_dot d x ≡ false) xs
 
 -- y is x, perhaps with another code
 abbrev pub Recodes : Item → Item → Type 0
@@ -27,18 +27,18 @@ pub find_past : (x : Item) (xs : List Item) (d : Dot) → Absent x.dot xs → ha
 find_past x xs d a t = ap (λ c. find c xs) (sym (dot_equal x.dot d t)) ∙ find_absent x.dot xs (absent_stands x.dot xs a)
 
 -- what holds of all that is found holds of all items
-pub all_found : (P : Item → Type 0) (xs : List Item) → Apart xs → ((d : Dot) (x : Item) → find d xs ≡ Some x → P x) → All P xs
+pub all_found : (P : Item → Type 0) (xs : List Item) → Apart xs → ((d : Dot) (x : Item) → find d xs ≡ Some x → P x) → AllByRecursion P xs
 all_found P [] a h = tt
 all_found P (x ∷ xs) a h = (h x.dot x (find_first x xs), all_found P xs a.1 (λ d y e. h d y (later d y e)))
   where
     later : (d : Dot) (y : Item) → find d xs ≡ Some y → find d (x ∷ xs) ≡ Some y
     later d y e = let p = find_past x xs d a.0 in grind arith
 
-pub all_keep : (f : Item → Option Item) (P Q : Item → Type 0) → ((x y : Item) → f x ≡ Some y → P x → Q y) → (xs : List Item) → All P xs → All Q (keep f xs)
+pub all_keep : (f : Item → Option Item) (P Q : Item → Type 0) → ((x y : Item) → f x ≡ Some y → P x → Q y) → (xs : List Item) → AllByRecursion P xs → AllByRecursion Q (keep f xs)
 all_keep f P Q h [] a = tt
 all_keep f P Q h (x ∷ xs) a = go (f x) refl (all_keep f P Q h xs a.1)
   where
-    go : (o : Option Item) → f x ≡ o → All Q (keep f xs) → All Q (lead o (keep f xs))
+    go : (o : Option Item) → f x ≡ o → AllByRecursion Q (keep f xs) → AllByRecursion Q (lead o (keep f xs))
     go None e ih = ih
     go (Some y) e ih = (h x y e a.0, ih)
 
@@ -70,12 +70,12 @@ module _ (f : Item → Option Item) (same : (x y : Item) → f x ≡ Some y → 
 
 -- insertions of items whose dots are not there
 module _ (xs : List Item) where
-  pub all_inserts : (P : Item → Type 0) (ys : List Item) → All P ys → All P xs → All P (insert_items ys xs)
+  pub all_inserts : (P : Item → Type 0) (ys : List Item) → AllByRecursion P ys → AllByRecursion P xs → AllByRecursion P (insert_items ys xs)
   all_inserts P [] b a = a
   all_inserts P (y ∷ ys) b a = all_insert P y (insert_items ys xs) b.0 (all_inserts P ys b.1 a)
 
   abbrev pub Free : List Item → Type 0
-  Free ys = All (λ y. Absent y.dot xs) ys
+  Free ys = AllByRecursion (λ y. Absent y.dot xs) ys
 
   free : (y : Item) (ys : List Item) → Apart (y ∷ ys) → Free (y ∷ ys) → stands y.dot (insert_items ys xs) ≡ false
   free y ys a n = absent_stands y.dot (insert_items ys xs) (all_inserts (λ z. has_dot y.dot z ≡ false) ys a.0 n.0)

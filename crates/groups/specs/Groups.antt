@@ -1,6 +1,6 @@
 -- Groups: what one is, what it says of a dot, and the join of two.
 use Rattle.std.specs.Prelude.{◌≡◌, ℕ, Bool, true, false, cond, ◌&&◌, List, [], ◌∷◌, Some, None, fold, Option, ◌==◌}
-use Rattle.std.specs.List.{slice_get, AllByRecursion as All}
+use Rattle.std.specs.List.{slice_get, AllByRecursion}
 use Rattle.causal.specs.declared.dots.Dot.{Dot}
 use Rattle.causal.specs.declared.runs.Run.{Run}
 use Rattle.causal.specs.Places.{same_place}
@@ -27,8 +27,8 @@ pub record Formed (ks : List ValueKind) (g : Group) : Type 0 where
   pub one_form : canonical g.runs ≡ true
   pub ascends : Ascends g.items
   pub apart : Apart g.items
-  pub proper : All (Proper ks) g.items
-  pub known : All (Known g.runs) g.items
+  pub proper : AllByRecursion (Proper ks) g.items
+  pub known : AllByRecursion (Known g.runs) g.items
 
 -- what a group says of a dot: nothing, that its item was struck, or its item
 pub data Fate : Type 0 where

@@ -1,6 +1,6 @@
 -- What the join of groups satisfies, and why a dot must stand at one place only.
 use Rattle.std.specs.Prelude.{◌≡◌, ℕ, true, List, [], ◌∷◌}
-use Rattle.std.specs.List.{slice_get, AllByRecursion as All}
+use Rattle.std.specs.List.{slice_get, AllByRecursion}
 use Rattle.causal.specs.declared.dots.Dot.{Dot}
 use Rattle.kinds.specs.Kinds.{ValueKind}
 use Rattle.causal.specs.Runs.{has, dot, run}
@@ -23,7 +23,7 @@ pub record JoinLaws (ks : List ValueKind) : Type 0 where
   -- groups in form join to one in form
   pub empty_formed : Formed ks empty
   pub stays_formed : (g h : Group) → Formed ks g → Formed ks h → Formed ks (joined ks g h)
-  pub all_formed : (gs : List Group) → All (Formed ks) gs → Formed ks (joined_all ks gs)
+  pub all_formed : (gs : List Group) → AllByRecursion (Formed ks) gs → Formed ks (joined_all ks gs)
   pub left_unit : (g : Group) → Formed ks g → joined ks empty g ≡ g
   pub right_unit : (g : Group) → Formed ks g → joined ks g empty ≡ g
   pub idempotent : (g : Group) → Formed ks g → joined ks g g ≡ g

@@ -1,6 +1,6 @@
 -- Actions that were read from bytes.
 use Rattle.std.proofs.Common.{◌≡◌, ℕ, zero, suc, ◌/◌, ◌<◌, true, false, cond, ◌&&◌, eqb, ltb, List, [], ◌∷◌, map, length, take, drop, Some, None, Option, sym, refl, subst, ⊎_elim}
-use Rattle.std.specs.List.{AllByRecursion as All}
+use Rattle.std.specs.List.{AllByRecursion}
 use Rattle.std.proofs.lemmas.Bool.{and_parts, and_from, ltb-true, not-false}
 use Rattle.causal.specs.declared.places.Place.{Place}
 use Rattle.causal.specs.Places.{is_place}
@@ -37,7 +37,7 @@ Coded ks (set p l c) = fits_part ks p c ≡ true
 Coded ks (clear p l) = Unit {0}
 Coded ks (amend p l c) = fits_part ks p c ≡ true
 
-pub action_read : (ks : List ValueKind) (bytes : List ℕ) (a : Action) → All (λ b. b < 256) bytes → action_in ks bytes ≡ Some a → Read ks a
+pub action_read : (ks : List ValueKind) (bytes : List ℕ) (a : Action) → AllByRecursion (λ b. b < 256) bytes → action_in ks bytes ≡ Some a → Read ks a
 action_read ks bytes a small e = ⊎_elim (λ c. tagged c.0 c.1) (λ c. absurd (some_none (sym c.1))) (cond_split (is_action ks f) (action_by_tag f) None (Some a) e)
   where
     f : Fields
@@ -63,18 +63,18 @@ action_read ks bytes a small e = ⊎_elim (λ c. tagged c.0 c.1) (λ c. absurd (
     tagged i e = ⊎_elim (λ c. subst (Read ks) (some_same (set f.part f.place f.code) a c.1) (placed i (and_parts (eqb f.tag 5) (has_key f.place) c.0).1)) (λ c. second i c.1)
         (cond_split (eqb f.tag 5 && has_key f.place) (Some (set f.part f.place f.code)) (cond (eqb f.tag 6 && eqb f.code 0) (Some (clear f.part f.place)) (cond (eqb f.tag 7 && has_key f.place) (Some (amend f.part f.place f.code)) None)) (Some a) e)
 
-pub pieces_read : (ks : List ValueKind) (n : ℕ) (bytes : List ℕ) → All (λ b. b < 256) bytes → All (Read ks) (understood (map (action_in ks) (pieces n bytes)))
+pub pieces_read : (ks : List ValueKind) (n : ℕ) (bytes : List ℕ) → AllByRecursion (λ b. b < 256) bytes → AllByRecursion (Read ks) (understood (map (action_in ks) (pieces n bytes)))
 pieces_read ks zero bytes small = tt
 pieces_read ks (suc n) bytes small = go (action_in ks (take 24 bytes)) refl (pieces_read ks n (drop 24 bytes) (all_from (λ b. b < 256) (drop 24 bytes) (λ b m. all_at (λ b. b < 256) bytes b small (in_drop b 24 bytes m))))
   where
-    go : (o : Option Action) → action_in ks (take 24 bytes) ≡ o → All (Read ks) (understood (map (action_in ks) (pieces n (drop 24 bytes)))) → All (Read ks) (understood (o ∷ map (action_in ks) (pieces n (drop 24 bytes))))
+    go : (o : Option Action) → action_in ks (take 24 bytes) ≡ o → AllByRecursion (Read ks) (understood (map (action_in ks) (pieces n (drop 24 bytes)))) → AllByRecursion (Read ks) (understood (o ∷ map (action_in ks) (pieces n (drop 24 bytes))))
     go None e i = i
     go (Some a) e i = (action_read ks (take 24 bytes) a (all_from (λ b. b < 256) (take 24 bytes) (λ b m. all_at (λ b. b < 256) bytes b small (in_take b 24 bytes m))) e, i)
 
-pub actions_read : (ks : List ValueKind) (bytes : List ℕ) → All (λ b. b < 256) bytes → All (Read ks) (actions ks bytes)
+pub actions_read : (ks : List ValueKind) (bytes : List ℕ) → AllByRecursion (λ b. b < 256) bytes → AllByRecursion (Read ks) (actions ks bytes)
 actions_read ks bytes small = pieces_read ks (length bytes / 24) bytes small
 
-pub coded : (ks : List ValueKind) (n : ℕ) (acts : List Action) → code_fault ks n acts ≡ None → All (Coded ks) acts
+pub coded : (ks : List ValueKind) (n : ℕ) (acts : List Action) → code_fault ks n acts ≡ None → AllByRecursion (Coded ks) acts
 coded ks n [] e = tt
 coded ks n (a ∷ acts) e = ⊎_elim (λ c. absurd (some_none c.1)) (λ c. (one a c.0, coded ks (suc n) acts c.1)) (cond_split (is_unfit ks a) (Some (bad_code n)) (code_fault ks (suc n) acts) None e)
   where

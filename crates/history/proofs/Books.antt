@@ -1,6 +1,6 @@
 -- The book of items put and dots struck: what it says of each dot, and that the book of two lots is the join of their books.
 use Rattle.std.proofs.Common.{◌≡◌, ℕ, Bool, true, false, cond, not, ◌||◌, ◌⊎◌, List, [], ◌∷◌, ◌++◌, Some, None, Option, sym, refl, ap, ◌∙◌, subst, ap₂, inl, inr, arith}
-use Rattle.std.specs.List.{slice_get, AllByRecursion as All}
+use Rattle.std.specs.List.{slice_get, AllByRecursion}
 use Rattle.std.proofs.lemmas.Bool.Decides.{nat_tests}
 use Rattle.std.proofs.lemmas.Bool.{cases_Bool, and_parts, and_from, leb-true, eq-eqb, cond-true, not-true, or_left}
 use Rattle.std.proofs.ByRecursion.{All-weaker, kept_by_passes}
@@ -30,7 +30,7 @@ use Rattle.history.specs.Books.{over, gathered, without, book_of}
 use Rattle.history.proofs.Members.{in_left, in_right, all_both, among_append, kept_ascends, kept_apart, dots_append}
 
 abbrev pub Dotted : List Dot → Type 0
-Dotted ds = All (λ d. is_dot d ≡ true) ds
+Dotted ds = AllByRecursion (λ d. is_dot d ≡ true) ds
 
 -- at one part, place and dot
 pub record Same (x y : Item) : Type 0 where

@@ -1,7 +1,7 @@
 -- The deeds of an edit: they put no dot at two places, and their groups come to the book of the edit.
 use Rattle.std.proofs.Common.{◌≡◌, ℕ, suc, ◌+◌, ◌≤◌, max, Bool, true, false, cond, not, ◌&&◌, leb, ◌⊎◌, List, [], ◌∷◌, ◌++◌, map, Some, None, fold, filter, Option, sym, refl, ap, ◌∙◌, subst, ap₂, inl, inr, ⊎_elim, append_assoc, arith}
 use Rattle.std.proofs.lemmas.Bool.{or_left, eqb-true, and_parts, and_from, le-leb, leb-false, both_ways}
-use Rattle.std.specs.List.{slice_get, AllByRecursion as All}
+use Rattle.std.specs.List.{slice_get, AllByRecursion}
 use Rattle.refusals.specs.declared.Refusal.{Refusal}
 use Rattle.causal.specs.declared.dots.Dot.{Dot}
 use Rattle.causal.specs.declared.places.Place.{Place}
@@ -83,7 +83,7 @@ module _ (ks : List ValueKind) where
   amended_ascends c [] a = tt
   amended_ascends c (x ∷ xs) a = (each xs a.0, amended_ascends c xs a.1)
     where
-      each : (ys : List Item) → All (λ y. precedes x y ≡ true) ys → All (λ y. precedes (amended ks c x) y ≡ true) (map (amended ks c) ys)
+      each : (ys : List Item) → AllByRecursion (λ y. precedes x y ≡ true) ys → AllByRecursion (λ y. precedes (amended ks c x) y ≡ true) (map (amended ks c) ys)
       each [] p = tt
       each (y ∷ ys) p = (p.0, each ys p.1)
 
@@ -91,7 +91,7 @@ module _ (ks : List ValueKind) where
   amended_apart c [] a = tt
   amended_apart c (x ∷ xs) a = (each xs a.0, amended_apart c xs a.1)
     where
-      each : (ys : List Item) → All (λ y. has_dot x.dot y ≡ false) ys → All (λ y. has_dot x.dot y ≡ false) (map (amended ks c) ys)
+      each : (ys : List Item) → AllByRecursion (λ y. has_dot x.dot y ≡ false) ys → AllByRecursion (λ y. has_dot x.dot y ≡ false) (map (amended ks c) ys)
       each [] p = tt
       each (y ∷ ys) p = (p.0, each ys p.1)
 
@@ -313,14 +313,14 @@ module _ (z : Setting) (few : FewParts z.kinds) (r : ℕ) (checked : is_replica 
   pub record Done (ps : List Item) (ss : List Dot) (allp : List Item) (ds : List Deed) : Type 0 where
     pub knowing : Knowing (ps ++ puts_of ds) (ss ++ strikes_of ds) (allp ++ puts_of ds)
     pub struck : (e : Dot) → e ∈ strikes_of ds → is_dot e ≡ true
-    pub groups : All (λ (d : Deed). group_of d ≡ book_of ks d.puts d.strikes) ds
+    pub groups : AllByRecursion (λ (d : Deed). group_of d ≡ book_of ks d.puts d.strikes) ds
     pub origin : (x : Item) → x ∈ puts_of ds → ((y : Item) × (y ∈ ps) × (x.dot ≡ y.dot)) ⊎ (x.dot.replica ≡ r)
 
   both_none : (o p : Option Refusal) → first_of o p ≡ None → (o ≡ None) × (p ≡ None)
   both_none None p e = (refl, e)
   both_none (Some f) p e = absurd (some_none e)
 
-  pub planned_done : (acts : List Action) (n : ℕ) (ps : List Item) (ss : List Dot) (allp : List Item) → Knowing ps ss allp → All (Read ks) acts → All (Coded ks) acts → planned_fault z r n acts ps ss ≡ None → Done ps ss allp (planned z r acts ps ss)
+  pub planned_done : (acts : List Action) (n : ℕ) (ps : List Item) (ss : List Dot) (allp : List Item) → Knowing ps ss allp → AllByRecursion (Read ks) acts → AllByRecursion (Coded ks) acts → planned_fault z r n acts ps ss ≡ None → Done ps ss allp (planned z r acts ps ss)
   planned_done [] n ps ss allp k rs cs e = record { knowing = rw (nil_right ps, nil_right ss, nil_right allp) k; struck = λ e m. absurd m; groups = tt; origin = λ x m. absurd m }
   planned_done (a ∷ acts) n ps ss allp k rs cs e = go (λ f no. planned_done acts (suc n) (ps ++ d.puts) (ss ++ d.strikes) (allp ++ d.puts) (knowing_more ps ss allp k d f) rs.1 cs.1 no)
     where
@@ -353,7 +353,7 @@ module _ (z : Setting) (few : FewParts z.kinds) (r : ℕ) (checked : is_replica 
           }
 
   -- the book as earlier actions left it is that of all put and struck before
-  pub fault_same : (acts : List Action) (n : ℕ) (ps : List Item) (ss : List Dot) (allp : List Item) → Knowing ps ss allp → All (Read ks) acts → All (Coded ks) acts → deeds_fault ks r n acts (book_of ks ps ss) ≡ planned_fault z r n acts ps ss
+  pub fault_same : (acts : List Action) (n : ℕ) (ps : List Item) (ss : List Dot) (allp : List Item) → Knowing ps ss allp → AllByRecursion (Read ks) acts → AllByRecursion (Coded ks) acts → deeds_fault ks r n acts (book_of ks ps ss) ≡ planned_fault z r n acts ps ss
   fault_same [] n ps ss allp k rs cs = refl
   fault_same (a ∷ acts) n ps ss allp k rs cs = go (deed_fault r n a (book_of ks ps ss)) refl (λ f. fault_same acts (suc n) (ps ++ d.puts) (ss ++ d.strikes) (allp ++ d.puts) (knowing_more ps ss allp k d f) rs.1 cs.1)
     where
@@ -365,7 +365,7 @@ module _ (z : Setting) (few : FewParts z.kinds) (r : ℕ) (checked : is_replica 
       go (Some g) e ih = refl
       go None e ih = let f = deed_fits ps ss allp k n a rs.0 cs.0 e in ap (deeds_fault ks r (suc n) acts) (next_book ps ss allp k d f) ∙ ih f
 
-  pub deeds_same : (acts : List Action) (n : ℕ) (ps : List Item) (ss : List Dot) (allp : List Item) → Knowing ps ss allp → All (Read ks) acts → All (Coded ks) acts → planned_fault z r n acts ps ss ≡ None → deeds ks r acts (book_of ks ps ss) ≡ planned z r acts ps ss
+  pub deeds_same : (acts : List Action) (n : ℕ) (ps : List Item) (ss : List Dot) (allp : List Item) → Knowing ps ss allp → AllByRecursion (Read ks) acts → AllByRecursion (Coded ks) acts → planned_fault z r n acts ps ss ≡ None → deeds ks r acts (book_of ks ps ss) ≡ planned z r acts ps ss
   deeds_same [] n ps ss allp k rs cs e = refl
   deeds_same (a ∷ acts) n ps ss allp k rs cs e =
       let d : Deed = deed ks r a (book_of ks ps ss) in
@@ -375,7 +375,7 @@ module _ (z : Setting) (few : FewParts z.kinds) (r : ℕ) (checked : is_replica 
 
   -- the groups of the deeds, joined, are the book of all that they put and strike
   module _ (caps : List ℕ) where
-    pub joins_deeds : (ds : List Deed) (ps : List Item) (ss : List Dot) → All (λ (d : Deed). group_of d ≡ book_of ks d.puts d.strikes) ds → Dotted ss → Dotted (strikes_of ds) → Good ks (ps ++ puts_of ds) → OnePlace (ps ++ puts_of ds)
+    pub joins_deeds : (ds : List Deed) (ps : List Item) (ss : List Dot) → AllByRecursion (λ (d : Deed). group_of d ≡ book_of ks d.puts d.strikes) ds → Dotted ss → Dotted (strikes_of ds) → Good ks (ps ++ puts_of ds) → OnePlace (ps ++ puts_of ds)
         → (fold (joined ks) (book_of ks ps ss) (map group_of ds) ≡ book_of ks (ps ++ puts_of ds) (ss ++ strikes_of ds)) × (joinings_fault ks caps (book_of ks ps ss) (map group_of ds) ≡ doing_fault z caps ps ss ds)
     joins_deeds [] ps ss gs sp sd good one = (ap₂ (book_of ks) (sym (nil_right ps)) (sym (nil_right ss)), refl)
     joins_deeds (d ∷ es) ps ss gs sp sd good one =

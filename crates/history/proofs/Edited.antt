@@ -1,7 +1,7 @@
 -- An edit keeps what holds of the machine, and the replicas follow it.
 use Rattle.std.proofs.Common.{◌≡◌, ℕ, ◌+◌, ◌<◌, ◌≤◌, true, false, eqb, ◌⊎◌, List, [], ◌∷◌, ◌++◌, map, length, Some, None, Option, sym, refl, ap, ◌∙◌, subst, ap₂, inl, inr, ⊎_elim, arith}
 use Rattle.std.proofs.lemmas.Bool.{eqb-false}
-use Rattle.std.specs.List.{AllByRecursion as All}
+use Rattle.std.specs.List.{AllByRecursion}
 use Rattle.refusals.specs.declared.Refusal.{Refusal}
 use Rattle.shelves.specs.Parcels.{append_refusal}
 use Rattle.causal.specs.declared.dots.Dot.{Dot}
@@ -54,7 +54,7 @@ module _ (z : Setting) (few : FewParts z.kinds) (m : Machine) (v : Inv z m) (r :
   }
 
   -- an edit whose actions can be done
-  module _ (acts : List Action) (rs : All (Read z.kinds) acts) (cs : All (Coded z.kinds) acts) (ok : planned_fault z n 0 acts (put_by es) (struck_by es) ≡ None) where
+  module _ (acts : List Action) (rs : AllByRecursion (Read z.kinds) acts) (cs : AllByRecursion (Coded z.kinds) acts) (ok : planned_fault z n 0 acts (put_by es) (struck_by es) ≡ None) where
     abbrev ds : List Deed
     ds = planned z n acts (put_by es) (struck_by es)
 
@@ -155,7 +155,7 @@ module _ (z : Setting) (few : FewParts z.kinds) (m : Machine) (v : Inv z m) (r :
         (j.0 ∙ ap₂ (book_of z.kinds) (sym (nil_right (puts_of ds))) (sym (nil_right (strikes_of ds)))) j.1
         (book_union z all sane_more es new (λ e i. in_left e v.all new ((v.pasts n).part e i)) (λ e i. in_right e v.all new i))
 
-  module _ (acts : List Action) (rs : All (Read z.kinds) acts) (caps output : List ℕ) where
+  module _ (acts : List Action) (rs : AllByRecursion (Read z.kinds) acts) (caps output : List ℕ) where
     abbrev planning : Option Refusal
     planning = planned_fault z n 0 acts (put_by es) (struck_by es)
 
@@ -182,12 +182,12 @@ module _ (z : Setting) (few : FewParts z.kinds) (m : Machine) (v : Inv z m) (r :
         ap (λ dd. joined_up z.kinds (shown z n x) (map group_of dd) caps output) (deeds_same z few n r.checked acts 0 (put_by es) (struck_by es) (put_by v.all) know rs c b.0)
         ∙ image_enters acts rs c b.0 caps output)
 
-  pub inv_edits : (pen : ℕ) (bytes : List ℕ) (work : Work) (output : List ℕ) → All (λ b. b < 256) bytes → Inv z (on_past m n (edits z n x pen bytes work output)).after
+  pub inv_edits : (pen : ℕ) (bytes : List ℕ) (work : Work) (output : List ℕ) → AllByRecursion (λ b. b < 256) bytes → Inv z (on_past m n (edits z n x pen bytes work output)).after
   inv_edits pen bytes work output small =
       unless_both (unread_fault z.kinds n pen bytes) (refuse x output work.items) (carries_out z n x (actions z.kinds bytes) work.capacities output) (λ (t : Turn Past). Inv z (on_past m n t).after) (λ e. inv_same z m v n)
       (λ e. inv_carries (actions z.kinds bytes) (actions_read z.kinds bytes small) work.capacities output)
 
-  pub image_edits : (pen : ℕ) (bytes : List ℕ) (work : Work) (output : List ℕ) → All (λ b. b < 256) bytes → edit z.kinds (shown z n x) pen bytes work output ≡ turn_past z n (edits z n x pen bytes work output)
+  pub image_edits : (pen : ℕ) (bytes : List ℕ) (work : Work) (output : List ℕ) → AllByRecursion (λ b. b < 256) bytes → edit z.kinds (shown z n x) pen bytes work output ≡ turn_past z n (edits z n x pen bytes work output)
   image_edits pen bytes work output small =
       unless_same (turn_past z n) (unread_fault z.kinds n pen bytes) _ (refuse x output work.items) (carries_out z n x (actions z.kinds bytes) work.capacities output) _ _ refl (λ e. refl)
       (λ e. image_carries (actions z.kinds bytes) (actions_read z.kinds bytes small) work.capacities output)

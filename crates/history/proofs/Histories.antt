@@ -1,6 +1,6 @@
 -- Sets of edits and their books.
 use Rattle.std.proofs.Common.{◌≡◌, ℕ, true, ◌⊎◌, List, [], ◌∷◌, ◌++◌, map, Some, fold, sym, refl, ap, ◌∙◌, subst, ap₂, inl, inr, ⊎_elim, append_assoc, arith}
-use Rattle.std.specs.List.{AllByRecursion as All}
+use Rattle.std.specs.List.{AllByRecursion}
 use Rattle.std.proofs.lemmas.Bool.{and_parts}
 use Rattle.causal.specs.declared.dots.Dot.{Dot}
 use Rattle.causal.specs.declared.places.Place.{Place}
@@ -98,7 +98,7 @@ module _ (z : Setting) (all : Edits) (sane : Sane z.kinds all) where
   pub book_formed : (es : Edits) → Part es all → Formed z.kinds (book z es)
   book_formed es p = formed_book z.kinds (put_by es) (struck_by es) (all_puts es p) (all_strikes es p) (all_good es p) (part_one es p)
 
-  pub book_narrow : (es : Edits) → Part es all → All Narrow (book z es).items
+  pub book_narrow : (es : Edits) → Part es all → AllByRecursion Narrow (book z es).items
   book_narrow es p = all_found Narrow (book z es).items (book_formed es p).apart each
     where
       same_narrow : (x y : Item) → Same x y → Narrow y → Narrow x

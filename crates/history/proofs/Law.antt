@@ -1,6 +1,6 @@
 -- The law over runs.
 use Rattle.std.proofs.Common.{◌≡◌, ℕ, true, List, [], ◌∷◌, map, sym, refl, ap, ◌∙◌, subst, ap₂}
-use Rattle.std.specs.List.{AllByRecursion as All}
+use Rattle.std.specs.List.{AllByRecursion}
 use Rattle.causal.specs.Runs.{has}
 use Rattle.stores.specs.Sound.{FewParts}
 use Rattle.groups.specs.Groups.{Group, joined}
@@ -22,10 +22,10 @@ module _ (z : Setting) (few : FewParts z.kinds) where
   follows : Follows z
   follows ks b = follow z few ks b (blank z) (inv_blank z)
 
-  after : (ks : List Call) → All Bytewise ks → Inv z (history z (blank z) ks)
+  after : (ks : List Call) → AllByRecursion Bytewise ks → Inv z (history z (blank z) ks)
   after ks b = run_inv z few ks b (blank z) (inv_blank z)
 
-  book_is : (ks : List Call) → All Bytewise ks → (q : ℕ) → book_after z ks q ≡ book z (seen_by z ks q)
+  book_is : (ks : List Call) → AllByRecursion Bytewise ks → (q : ℕ) → book_after z ks q ≡ book z (seen_by z ks q)
   book_is ks b q = ap (λ (w : World). (w.replicas q).book) (run_image z few ks b (blank z) (inv_blank z))
 
   entries : Entries z
@@ -48,12 +48,12 @@ module _ (z : Setting) (few : FewParts z.kinds) where
       let s = v.sane.one x y (part_puts (seen_by z ks q) v.all (v.pasts q).part x i) (part_puts (seen_by z ks r) v.all (v.pasts r).part y j) e in
       (s.part, s.place)
 
-  quiet : (ks : List Call) → All Bytewise ks → (m : Machine) → Inv z m → All (λ (t : Turn World). (n : ℕ) → t.answer ≡ refusal (stands_elsewhere n) → ⊥) (map (compared z) (tale z m ks))
+  quiet : (ks : List Call) → AllByRecursion Bytewise ks → (m : Machine) → Inv z m → AllByRecursion (λ (t : Turn World). (n : ℕ) → t.answer ≡ refusal (stands_elsewhere n) → ⊥) (map (compared z) (tale z m ks))
   quiet [] b m v = tt
   quiet (k ∷ ks) b m v = ((λ n e. tells_quiet z m v k (stands_elsewhere n) e refl), quiet ks b.1 (tells z k m).after (step_inv z few m v k b.0))
 
   never_elsewhere : NeverElsewhere z
-  never_elsewhere ks b = subst (All (λ (t : Turn World). (n : ℕ) → t.answer ≡ refusal (stands_elsewhere n) → ⊥)) (sym (follows ks b)) (quiet ks b (blank z) (inv_blank z))
+  never_elsewhere ks b = subst (AllByRecursion (λ (t : Turn World). (n : ℕ) → t.answer ≡ refusal (stands_elsewhere n) → ⊥)) (sym (follows ks b)) (quiet ks b (blank z) (inv_blank z))
 
   joins : Joins z
   joins ks b q r =

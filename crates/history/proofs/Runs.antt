@@ -1,7 +1,7 @@
 -- Every call keeps what holds of the machine, and the replicas follow it.
 use Rattle.std.proofs.Common.{◌≡◌, ℕ, cond, not, eqb, ltb, leb, List, [], ◌∷◌, ◌++◌, map, length, Some, None, Option, sym, refl, ap, ◌∙◌, subst, arith}
 use Rattle.std.proofs.lemmas.Bool.{cond_both, ltb-false}
-use Rattle.std.specs.List.{slice_get, remove, AllByRecursion as All}
+use Rattle.std.specs.List.{slice_get, remove, AllByRecursion}
 use Rattle.shelves.specs.Parcels.{append_refusal}
 use Rattle.causal.specs.declared.places.Place.{Place}
 use Rattle.stores.specs.Faults.{bad_address}
@@ -126,16 +126,16 @@ module _ (z : Setting) (few : FewParts z.kinds) where
 
   -- over a list of calls
 
-  pub follow : (ks : List Call) → All Bytewise ks → (m : Machine) → Inv z m → trace z (image z m) ks ≡ map (compared z) (tale z m ks)
+  pub follow : (ks : List Call) → AllByRecursion Bytewise ks → (m : Machine) → Inv z m → trace z (image z m) ks ≡ map (compared z) (tale z m ks)
   follow [] b m v = refl
   follow (k ∷ ks) b m v =
       ap (λ (o : Turn World). o ∷ trace z o.after ks) (step_image m v k b.0)
       ∙ ap (λ l. compared z (tells z k m) ∷ l) (follow ks b.1 (tells z k m).after (step_inv m v k b.0))
 
-  pub run_inv : (ks : List Call) → All Bytewise ks → (m : Machine) → Inv z m → Inv z (history z m ks)
+  pub run_inv : (ks : List Call) → AllByRecursion Bytewise ks → (m : Machine) → Inv z m → Inv z (history z m ks)
   run_inv [] b m v = v
   run_inv (k ∷ ks) b m v = run_inv ks b.1 (tells z k m).after (step_inv m v k b.0)
 
-  pub run_image : (ks : List Call) → All Bytewise ks → (m : Machine) → Inv z m → run z (image z m) ks ≡ image z (history z m ks)
+  pub run_image : (ks : List Call) → AllByRecursion Bytewise ks → (m : Machine) → Inv z m → run z (image z m) ks ≡ image z (history z m ks)
   run_image [] b m v = refl
   run_image (k ∷ ks) b m v = ap (λ (o : Turn World). run z o.after ks) (step_image m v k b.0) ∙ run_image ks b.1 (tells z k m).after (step_inv m v k b.0)

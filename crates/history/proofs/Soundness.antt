@@ -2,7 +2,7 @@
 use Rattle.std.proofs.Common.{◌≡◌, ℕ, zero, suc, ◌+◌, ◌-◌, ◌*◌, ◌/◌, ◌<◌, ◌≤◌, Bool, true, false, cond, ◌&&◌, eqb, ltb, leb, List, [], ◌∷◌, ◌++◌, map, length, take, drop, Some, None, fold, filter, Option, sym, refl, ap, ◌∙◌, subst, ⊎_elim, arith, length-append, length-drop}
 use Rattle.std.proofs.lemmas.List.{length-set}
 use Rattle.std.proofs.lemmas.Bool.{and_from, and_parts, le-leb, leb-false, ltb-false, eqb-true, cond_both}
-use Rattle.std.specs.List.{slice_get, AllByRecursion as All}
+use Rattle.std.specs.List.{slice_get, AllByRecursion}
 use Rattle.refusals.specs.declared.Refusal.{Refusal}
 use Rattle.causal.specs.declared.dots.Dot.{Dot}
 use Rattle.causal.specs.declared.places.Place.{Place}
@@ -50,10 +50,10 @@ use Rattle.history.proofs.Deeds.{amended_ascends, amended_apart}
 -- the groups of actions
 
 module _ (ks : List ValueKind) where
-  puts_dotted : (ps : List Item) → All (Proper ks) ps → Dotted (dots_of ps)
+  puts_dotted : (ps : List Item) → AllByRecursion (Proper ks) ps → Dotted (dots_of ps)
   puts_dotted ps p = all_from (λ d. is_dot d ≡ true) (dots_of ps) (λ d m. let i = in_map (λ (x : Item). x.dot) ps d m in ap is_dot i.2 ∙ proper_dot ks i.0 (all_at (Proper ks) ps i.0 p i.1))
 
-  group_formed : (d : Deed) → Ascends d.puts → Apart d.puts → All (Proper ks) d.puts → Dotted d.strikes → Formed ks (group_of d)
+  group_formed : (d : Deed) → Ascends d.puts → Apart d.puts → AllByRecursion (Proper ks) d.puts → Dotted d.strikes → Formed ks (group_of d)
   group_formed d up apart proper struck =
       let all = all_both (λ e. is_dot e ≡ true) (dots_of d.puts) d.strikes (puts_dotted d.puts proper) struck in
       record {
@@ -64,7 +64,7 @@ module _ (ks : List ValueKind) where
         known = all_from (Known (runs_for (dots_of d.puts ++ d.strikes))) d.puts (λ x m. has_runs (dots_of d.puts ++ d.strikes) x.dot all ∙ among_in (dots_of d.puts ++ d.strikes) x.dot (in_left x.dot (dots_of d.puts) d.strikes (map_in (λ (v : Item). v.dot) d.puts x m)));
       }
 
-  joined_narrow : (g h : Group) → Formed ks g → Formed ks h → All Narrow g.items → All Narrow h.items → All Narrow (joined ks g h).items
+  joined_narrow : (g h : Group) → Formed ks g → Formed ks h → AllByRecursion Narrow g.items → AllByRecursion Narrow h.items → AllByRecursion Narrow (joined ks g h).items
   joined_narrow g h fg fh ng nh = all_found Narrow (joined ks g h).items (joined_formed ks g h fg fh).apart each
     where
       recoded : (y x : Item) → Recodes y x → Narrow y → Narrow x
@@ -73,12 +73,12 @@ module _ (ks : List ValueKind) where
       each : (d : Dot) (x : Item) → find d (joined ks g h).items ≡ Some x → Narrow x
       each d x e = let w = joined_from ks g h fg fh d x e in recoded w.0 x w.2 (⊎_elim (λ p. found_all Narrow d g.items w.0 ng p) (λ p. found_all Narrow d h.items w.0 nh p) w.1)
 
-  onto_narrow : (g : Group) (hs : List Group) → Formed ks g → All Narrow g.items → All (Formed ks) hs → All (λ (h : Group). All Narrow h.items) hs → All Narrow (fold (joined ks) g hs).items
+  onto_narrow : (g : Group) (hs : List Group) → Formed ks g → AllByRecursion Narrow g.items → AllByRecursion (Formed ks) hs → AllByRecursion (λ (h : Group). AllByRecursion Narrow h.items) hs → AllByRecursion Narrow (fold (joined ks) g hs).items
   onto_narrow g [] fg ng fs ns = ng
   onto_narrow g (h ∷ hs) fg ng fs ns = onto_narrow (joined ks g h) hs (joined_formed ks g h fg fs.0) (joined_narrow g h fg fs.0 ng ns.0) fs.1 ns.1
 
   module _ (few : FewParts ks) (r : ℕ) (checked : is_replica r ≡ true) where
-    module _ (b : Group) (fb : Formed ks b) (nb : All Narrow b.items) where
+    module _ (b : Group) (fb : Formed ks b) (nb : AllByRecursion Narrow b.items) where
       struck_dotted : (t : Item → Bool) → Dotted (dots_of (filter t b.items))
       struck_dotted t = all_from (λ d. is_dot d ≡ true) (dots_of (filter t b.items)) (λ d m.
           let i = in_map (λ (x : Item). x.dot) (filter t b.items) d m in
@@ -95,7 +95,7 @@ module _ (ks : List ValueKind) where
           let m : c ≤ last_counter = omega arith in
           and_from (is_replica r) (is_counter c) checked (and_from (leb 1 c) (leb c last_counter) (le-leb 1 c l) (le-leb c last_counter m))
 
-      deed_sound : (n : ℕ) (a : Action) → Read ks a → Coded ks a → deed_fault r n a b ≡ None → Formed ks (group_of (deed ks r a b)) × All Narrow (deed ks r a b).puts
+      deed_sound : (n : ℕ) (a : Action) → Read ks a → Coded ks a → deed_fault r n a b ≡ None → Formed ks (group_of (deed ks r a b)) × AllByRecursion Narrow (deed ks r a b).puts
       deed_sound n (set_action p l c) q f e =
           let x : Item = record { part = p; place = l; dot = next_dot r b; code = c } in
           let proper : Proper ks x = record { placed = q.part; address = address l (next_dot r b) q.place (new_dot n e); fits = f } in
@@ -121,11 +121,11 @@ module _ (ks : List ValueKind) where
               let s = eqb-true x.part p (and_parts (eqb x.part p) _ m.1).0 in
               record { placed = k.placed; address = k.address; fits = codes_fit (slice_get ks x.part) x.code c k.fits (ap (λ v. fits_part ks v c) s ∙ f) }
 
-          proper : All (Proper ks) (map (amended ks c) (standing b p l))
+          proper : AllByRecursion (Proper ks) (map (amended ks c) (standing b p l))
           proper = all_from (Proper ks) (map (amended ks c) (standing b p l)) (λ w m. let i = back w m in subst (Proper ks) (sym i.2) (good i.0 i.1))
 
-    deeds_sound : (acts : List Action) (n : ℕ) (b : Group) → Formed ks b → All Narrow b.items → All (Read ks) acts → All (Coded ks) acts → deeds_fault ks r n acts b ≡ None
-        → All (Formed ks) (map group_of (deeds ks r acts b)) × All (λ (h : Group). All Narrow h.items) (map group_of (deeds ks r acts b))
+    deeds_sound : (acts : List Action) (n : ℕ) (b : Group) → Formed ks b → AllByRecursion Narrow b.items → AllByRecursion (Read ks) acts → AllByRecursion (Coded ks) acts → deeds_fault ks r n acts b ≡ None
+        → AllByRecursion (Formed ks) (map group_of (deeds ks r acts b)) × AllByRecursion (λ (h : Group). AllByRecursion Narrow h.items) (map group_of (deeds ks r acts b))
     deeds_sound [] n b fb nb rs cs e = (tt, tt)
     deeds_sound (a ∷ acts) n b fb nb rs cs e =
         let d = deed ks r a b in
@@ -155,7 +155,7 @@ steps_drop ks r n (suc k) [] s = tt
 steps_drop ks r n (suc k) (p ∷ ps) s = subst (λ j. StepsAfter ks r j (drop k ps)) (omega arith) (steps_drop ks r (n + 1) k ps s.1)
 
 module _ (ks : List ValueKind) (x : Replica) (s : SoundReplica ks x) where
-  pub stepped_sound : (g : Group) (heard : List ℕ) → Formed ks g → All Narrow g.items → length g.runs ≤ most_runs → x.step < last_step → book_fault ks x.capacities (joined ks x.book g) ≡ None → length heard ≡ last_replica
+  pub stepped_sound : (g : Group) (heard : List ℕ) → Formed ks g → AllByRecursion Narrow g.items → length g.runs ≤ most_runs → x.step < last_step → book_fault ks x.capacities (joined ks x.book g) ≡ None → length heard ≡ last_replica
       → SoundReplica ks (stepped ks x g heard)
   stepped_sound g heard fg ng few room fault sixteen =
       let b = joined ks x.book g in
@@ -184,7 +184,7 @@ module _ (ks : List ValueKind) (x : Replica) (s : SoundReplica ks x) where
         unless_cases (unread_fault ks x.number pen bytes) (refuse x output work.items) (carried_out ks x acts work.capacities output) P (λ f e. s)
         (λ _. unless_cases (undone_fault ks x acts) (refuse x output []) (joined_up ks x (map group_of (deeds ks x.number acts x.book)) work.capacities output) P (λ f e. s) (λ e. done acts (actions_read ks bytes small) e work.capacities output))
       where
-        done : (acts : List Action) → All (Read ks) acts → undone_fault ks x acts ≡ None → (caps output : List ℕ) → SoundReplica ks (joined_up ks x (map group_of (deeds ks x.number acts x.book)) caps output).after
+        done : (acts : List Action) → AllByRecursion (Read ks) acts → undone_fault ks x acts ≡ None → (caps output : List ℕ) → SoundReplica ks (joined_up ks x (map group_of (deeds ks x.number acts x.book)) caps output).after
         done acts rs e caps output =
             let gs = map group_of (deeds ks x.number acts x.book) in
             let g = joined_all ks gs in

@@ -1,7 +1,7 @@
 -- The law over runs: replicas follow the history machine; who has seen an edit has seen what its author had seen; two that exchange
 -- parcels agree.
 use Rattle.std.specs.Prelude.{◌≡◌, ℕ, true, ◌⊎◌, List, [], ◌∷◌, ◌++◌, map, length, filter, Option, ◌≢◌}
-use Rattle.std.specs.List.{slice_get, AllByRecursion as All}
+use Rattle.std.specs.List.{slice_get, AllByRecursion}
 use Rattle.causal.specs.declared.dots.Dot.{Dot}
 use Rattle.kinds.specs.Kinds.{ValueKind}
 use Rattle.causal.specs.Runs.{has}
@@ -40,7 +40,7 @@ module _ (z : Setting) where
 
   -- (a) after every call, its answer, lent memory, work store and all replicas and links are what the machine says
   abbrev pub FollowsBy : (Call → World → Turn World) → Type 0
-  FollowsBy step = (ks : List Call) → All Bytewise ks → traced step (opened z) ks ≡ map compared (tale z (blank z) ks)
+  FollowsBy step = (ks : List Call) → AllByRecursion Bytewise ks → traced step (opened z) ks ≡ map compared (tale z (blank z) ks)
 
   abbrev pub Follows : Type 0
   Follows = FollowsBy (called z)
@@ -93,14 +93,14 @@ Ships r l (read q part place numbers) = ⊥
 module _ (z : Setting) where
   -- an entry stands in a book exactly where it lives by the edits seen
   pub record Entries : Type 0 where
-    pub stands : (ks : List Call) → All Bytewise ks → (q : ℕ) (x : Item) → x ∈ (book_after z ks q).items → Lives z.kinds (seen_by z ks q) x
-    pub lives : (ks : List Call) → All Bytewise ks → (q : ℕ) (x : Item) → Lives z.kinds (seen_by z ks q) x → x ∈ (book_after z ks q).items
-    pub known : (ks : List Call) → All Bytewise ks → (q : ℕ) (d : Dot) → has (book_after z ks q).runs d ≡ true → Touched (seen_by z ks q) d
-    pub touched : (ks : List Call) → All Bytewise ks → (q : ℕ) (d : Dot) → Touched (seen_by z ks q) d → has (book_after z ks q).runs d ≡ true
+    pub stands : (ks : List Call) → AllByRecursion Bytewise ks → (q : ℕ) (x : Item) → x ∈ (book_after z ks q).items → Lives z.kinds (seen_by z ks q) x
+    pub lives : (ks : List Call) → AllByRecursion Bytewise ks → (q : ℕ) (x : Item) → Lives z.kinds (seen_by z ks q) x → x ∈ (book_after z ks q).items
+    pub known : (ks : List Call) → AllByRecursion Bytewise ks → (q : ℕ) (d : Dot) → has (book_after z ks q).runs d ≡ true → Touched (seen_by z ks q) d
+    pub touched : (ks : List Call) → AllByRecursion Bytewise ks → (q : ℕ) (d : Dot) → Touched (seen_by z ks q) d → has (book_after z ks q).runs d ≡ true
 
   -- (b) who has seen an edit has seen all that its author had seen
   abbrev pub CausalBy : (Call → Machine → Turn Machine) → Type 0
-  CausalBy step = (ks : List Call) → All Bytewise ks → (q : ℕ) (e : Edit) (n : Name) →
+  CausalBy step = (ks : List Call) → AllByRecursion Bytewise ks → (q : ℕ) (e : Edit) (n : Name) →
       let seen = ((told step (blank z) ks).pasts q).seen in e ∈ seen → n ∈ e.past → n ∈ names seen
 
   abbrev pub Causal : Type 0
@@ -108,19 +108,19 @@ module _ (z : Setting) where
 
   -- a name is of one edit only
   abbrev pub Named : Type 0
-  Named = (ks : List Call) → All Bytewise ks → (q r : ℕ) (e f : Edit) → e ∈ seen_by z ks q → f ∈ seen_by z ks r → e.name ≡ f.name → e ≡ f
+  Named = (ks : List Call) → AllByRecursion Bytewise ks → (q r : ℕ) (e f : Edit) → e ∈ seen_by z ks q → f ∈ seen_by z ks r → e.name ≡ f.name → e ≡ f
 
   -- a dot is put at one part and place only
   abbrev pub OnePlaced : Type 0
-  OnePlaced = (ks : List Call) → All Bytewise ks → (q r : ℕ) (x y : Item) → x ∈ put_by (seen_by z ks q) → y ∈ put_by (seen_by z ks r) → x.dot ≡ y.dot → (x.part ≡ y.part) × (x.place ≡ y.place)
+  OnePlaced = (ks : List Call) → AllByRecursion Bytewise ks → (q r : ℕ) (x y : Item) → x ∈ put_by (seen_by z ks q) → y ∈ put_by (seen_by z ks r) → x.dot ≡ y.dot → (x.part ≡ y.part) × (x.place ≡ y.place)
 
   -- so no parcel is ever turned away because a dot stands elsewhere
   abbrev pub NeverElsewhere : Type 0
-  NeverElsewhere = (ks : List Call) → All Bytewise ks → All (λ t. (n : ℕ) → t.answer ≢ refusal (stands_elsewhere n)) (traced (called z) (opened z) ks)
+  NeverElsewhere = (ks : List Call) → AllByRecursion Bytewise ks → AllByRecursion (λ t. (n : ℕ) → t.answer ≢ refusal (stands_elsewhere n)) (traced (called z) (opened z) ks)
 
   -- what two replicas have seen, taken together, has the join of their books
   abbrev pub Joins : Type 0
-  Joins = (ks : List Call) → All Bytewise ks → (q r : ℕ) → book z (seen_by z ks q ++ seen_by z ks r) ≡ joined z.kinds (book_after z ks q) (book_after z ks r)
+  Joins = (ks : List Call) → AllByRecursion Bytewise ks → (q r : ℕ) → book z (seen_by z ks q ++ seen_by z ks r) ≡ joined z.kinds (book_after z ks q) (book_after z ks r)
 
   -- a ships, b delivers that parcel, b ships, a delivers that one, all accepted: the two books are equal
   abbrev pub Meeting : World → Type 0
@@ -135,7 +135,7 @@ module _ (z : Setting) where
 
   -- (c)
   abbrev pub Meets : Type 0
-  Meets = (ks : List Call) → All Bytewise ks → Meeting (run z (opened z) ks)
+  Meets = (ks : List Call) → AllByRecursion Bytewise ks → Meeting (run z (opened z) ks)
 
   pub record Law : Type 0 where
     pub follows : Follows z

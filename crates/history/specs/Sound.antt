@@ -1,6 +1,6 @@
 -- What holds of a replica as long as it is only called, whatever bytes its links and journals had.
 use Rattle.std.specs.Prelude.{◌≡◌, ℕ, ◌+◌, ◌<◌, ◌≤◌, true, List, [], ◌∷◌, length, replicate, Some, slice_index}
-use Rattle.std.specs.List.{slice_get, AllByRecursion as All}
+use Rattle.std.specs.List.{slice_get, AllByRecursion}
 use Rattle.causal.specs.Dots.{is_replica, last_replica}
 use Rattle.kinds.specs.Kinds.{ValueKind}
 use Rattle.contexts.specs.Contexts.{most_runs}
@@ -33,7 +33,7 @@ pub record SoundReplica (ks : List ValueKind) (x : Replica) : Type 0 where
   pub number : is_replica x.number ≡ true
   -- the book is well-formed, can be written, and has room
   pub formed : Formed ks x.book
-  pub narrow : All Narrow x.book.items
+  pub narrow : AllByRecursion Narrow x.book.items
   pub few : length x.book.runs ≤ most_runs
   pub room : (p : ℕ) → p < length ks → count_part p x.book.items ≤ slice_index x.capacities p
   -- the kept groups are those of the steps after the forgotten ones

@@ -1,6 +1,6 @@
 -- Replicas under the numbers 1 to 16, any number of links, and lists of calls.
 use Rattle.std.specs.Prelude.{◌≡◌, ℕ, ◌<◌, true, cond, List, [], ◌∷◌, replicate, ◌==◌}
-use Rattle.std.specs.List.{AllByRecursion as All}
+use Rattle.std.specs.List.{AllByRecursion}
 use Rattle.causal.specs.declared.places.Place.{Place}
 use Rattle.causal.specs.Dots.{is_replica, last_replica}
 use Rattle.kinds.specs.Kinds.{ValueKind}
@@ -47,7 +47,7 @@ pub data Call : Type 0 where
 
 -- action bytes are bytes
 abbrev pub Bytewise : Call → Type 0
-Bytewise (edit r pen bytes work output) = All (λ b. b < 256) bytes
+Bytewise (edit r pen bytes work output) = AllByRecursion (λ b. b < 256) bytes
 Bytewise (ship r since work output l) = Unit {0}
 Bytewise (ship_whole r output l) = Unit {0}
 Bytewise (deliver r l position memory) = Unit {0}

@@ -1,6 +1,6 @@
 -- The items of a group enter what its strikes have left: the outcome is the join, and no put lacks room.
 use Rattle.std.proofs.Common.{◌≡◌, ℕ, zero, suc, ◌+◌, ◌<◌, ◌≤◌, Bool, true, false, cond, not, ◌&&◌, ◌||◌, eqb, leb, List, [], ◌∷◌, map, length, get_or, drop, is_some, Some, None, Option, sym, refl, ap, ◌∙◌, subst, ap₂, inl, inr, arith}
-use Rattle.std.specs.List.{slice_get, AllByRecursion as All}
+use Rattle.std.specs.List.{slice_get, AllByRecursion}
 use Rattle.std.specs.Option.{option_map}
 use Rattle.std.proofs.lemmas.Bool.{cases_Bool, cond-true, cond-false, cond_both, both_ways, lt-leb, and_right, or_right}
 use Rattle.causal.specs.declared.dots.Dot.{Dot}
@@ -155,7 +155,7 @@ module _ (ks : List ValueKind) (rs : List Run) where
   enter_other : (y : Item) (xs : List Item) (d : Dot) → same_dot y.dot d ≡ false → find d (enter ks rs y xs) ≡ find d xs
   enter_other y xs d f = cond_both (shut rs y.dot xs) xs (put_of (slice_get ks y.part) y xs) (λ zs. find d zs ≡ find d xs) (λ _. refl) (λ _. put_of_other (slice_get ks y.part) y xs d f)
 
-  find_enters : (xs ys : List Item) (d : Dot) → Apart ys → All (Proper ks) ys → find d (enter_all ks rs xs ys) ≡ came (has rs d) (find d xs) (find d ys)
+  find_enters : (xs ys : List Item) (d : Dot) → Apart ys → AllByRecursion (Proper ks) ys → find d (enter_all ks rs xs ys) ≡ came (has rs d) (find d xs) (find d ys)
   find_enters xs [] d a g = refl
   find_enters xs (y ∷ ys) d a g = find_enters (enter ks rs y xs) ys d a.1 g.1 ∙ go (has_dot d y) refl
     where
@@ -208,7 +208,7 @@ enters_join ks g h fg fh =
 
 -- the steps of the loop
 
-pub all_nth : (P : Item → Type 0) (ys : List Item) (i : ℕ) (y : Item) → All P ys → Some y ≡ slice_get ys i → P y
+pub all_nth : (P : Item → Type 0) (ys : List Item) (i : ℕ) (y : Item) → AllByRecursion P ys → Some y ≡ slice_get ys i → P y
 all_nth P [] i y a e = absurd (some_none e)
 all_nth P (z ∷ zs) zero y a e = subst P (sym (some_same y z e)) a.0
 all_nth P (z ∷ zs) (suc i) y a e = all_nth P zs i y a.1 e
@@ -217,7 +217,7 @@ module _ (ks : List ValueKind) (rs : List Run) (caps : List ℕ) (xs ys : List I
   next : enter_all ks rs xs (drop i ys) ≡ enter_all ks rs (enter ks rs (item_at p e) xs) (drop (i + 1) ys)
   next = ap (enter_all ks rs xs) (drop_nth ys i (item_at p e) l here)
 
-  pub enter_put : All (Proper ks) ys → ((q : ℕ) → count_part q (enter_all ks rs xs (drop i ys)) ≤ get_or caps q 0) → shut rs e.dot xs ≡ false
+  pub enter_put : AllByRecursion (Proper ks) ys → ((q : ℕ) → count_part q (enter_all ks rs xs (drop i ys)) ≤ get_or caps q 0) → shut rs e.dot xs ≡ false
       → enter_all ks rs (put_after ks caps xs p e) (drop (i + 1) ys) ≡ enter_all ks rs xs (drop i ys)
   enter_put good room f =
       ap (λ zs. enter_all ks rs zs (drop (i + 1) ys))

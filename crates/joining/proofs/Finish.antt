@@ -1,6 +1,6 @@
 -- The outcome of a join that has room.
 use Rattle.std.proofs.Common.{◌≡◌, ℕ, zero, suc, ◌+◌, ◌<◌, ◌≤◌, Bool, true, false, cond, ltb, List, [], ◌∷◌, length, get_or, Some, None, Option, sym, refl, ap, ◌∙◌, subst, ap₂, inl, inr, arith}
-use Rattle.std.specs.List.{AllByRecursion as All}
+use Rattle.std.specs.List.{AllByRecursion}
 use Rattle.std.proofs.lemmas.Bool.{cases_lt, cond-false, ltb-false, ne_eqb}
 use Rattle.causal.specs.declared.runs.Run.{Run}
 use Rattle.contexts.specs.Contexts.{too_many}
@@ -31,14 +31,14 @@ within_from caps xs (suc n) q e p l m =
       | inr k ↦ let same : q ≡ p = omega arith in subst (λ r. count_part r xs ≤ get_or caps r 0) same (ltb-false (get_or caps q 0) (count_part q xs) s.0)
     ]
 
-count_beyond : (n : ℕ) (xs : List Item) (p : ℕ) → All (λ x. x.part < n) xs → n ≤ p → count_part p xs ≡ 0
+count_beyond : (n : ℕ) (xs : List Item) (p : ℕ) → AllByRecursion (λ x. x.part < n) xs → n ≤ p → count_part p xs ≡ 0
 count_beyond n [] p a l = refl
 count_beyond n (x ∷ xs) p a l =
     let low = a.0 in
     count_first p x xs ∙ cond-false (in_part p x) (suc (count_part p xs)) (count_part p xs) (ne_eqb x.part p (λ e. omega arith)) ∙ count_beyond n xs p a.1 l
 
 -- where no part is overfull, each part has room
-pub within_all : (ks : List ValueKind) (caps : List ℕ) (xs : List Item) → All (Proper ks) xs → overfull ks caps xs ≡ None → (p : ℕ) → count_part p xs ≤ get_or caps p 0
+pub within_all : (ks : List ValueKind) (caps : List ℕ) (xs : List Item) → AllByRecursion (Proper ks) xs → overfull ks caps xs ≡ None → (p : ℕ) → count_part p xs ≤ get_or caps p 0
 within_all ks caps xs a e p = elim (cases_lt p (length ks)) [
   | inl l ↦ within_from caps xs (length ks) 0 e p (omega arith) (omega arith)
   | inr l ↦ let z = count_beyond (length ks) xs p (all_placed ks xs a) l in omega arith

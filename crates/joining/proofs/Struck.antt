@@ -1,6 +1,6 @@
 -- What a group strikes, and what the strikes leave.
 use Rattle.std.proofs.Common.{◌≡◌, ℕ, zero, suc, ◌+◌, ◌-◌, ◌<◌, ◌≤◌, Bool, true, false, cond, not, ◌&&◌, List, [], ◌∷◌, ◌++◌, length, take, drop, Some, None, filter, sym, refl, ap, ◌∙◌, subst, ap₂, inl, inr, arith}
-use Rattle.std.specs.List.{slice_get, AllByRecursion as All}
+use Rattle.std.specs.List.{slice_get, AllByRecursion}
 use Rattle.std.proofs.lemmas.List.Elements.{filter-append}
 use Rattle.std.proofs.ByRecursion.{all_kept_by, All-weaker}
 use Rattle.std.proofs.lemmas.List.{take-append-drop, drop_all, length-take}
@@ -27,11 +27,11 @@ struck_unknown h d k = sym (ap (λ a. a && not (stands d h.items)) k)
 
 -- filters
 
-pub kept_same : (f g : Item → Bool) (xs : List Item) → All (λ x. f x ≡ g x) xs → filter f xs ≡ filter g xs
+pub kept_same : (f g : Item → Bool) (xs : List Item) → AllByRecursion (λ x. f x ≡ g x) xs → filter f xs ≡ filter g xs
 kept_same f g [] h = refl
 kept_same f g (x ∷ xs) h = ap₂ (λ b zs. cond b (x ∷ zs) zs) h.0 (kept_same f g xs h.1)
 
-pub kept_all : (f : Item → Bool) (xs : List Item) → All (λ x. f x ≡ true) xs → filter f xs ≡ xs
+pub kept_all : (f : Item → Bool) (xs : List Item) → AllByRecursion (λ x. f x ≡ true) xs → filter f xs ≡ xs
 kept_all f [] h = refl
 kept_all f (x ∷ xs) h = cond-true (f x) (x ∷ filter f xs) (filter f xs) h.0 ∙ ap (λ zs. x ∷ zs) (kept_all f xs h.1)
 
@@ -44,7 +44,7 @@ pub kept_kept : (f g : Item → Bool) (xs : List Item) → filter f (filter g xs
 kept_kept f g [] = refl
 kept_kept f g (x ∷ xs) = two_tests f g x xs (g x) (f x) refl refl (kept_kept f g xs)
 
-pub each : (P : Item → Type 0) (xs : List Item) → ((x : Item) → P x) → All P xs
+pub each : (P : Item → Type 0) (xs : List Item) → ((x : Item) → P x) → AllByRecursion P xs
 each P [] h = tt
 each P (x ∷ xs) h = (h x, each P xs h)
 
@@ -64,7 +64,7 @@ pub kept_turned : (f g : Item → Bool) (xs : List Item) → filter f (filter g 
 kept_turned f g xs = kept_kept f g xs ∙ kept_same (λ x. g x && f x) (λ x. f x && g x) xs (each (λ x. (g x && f x) ≡ (f x && g x)) xs (λ x. and_turned (g x) (f x))) ∙ sym (kept_kept g f xs)
 
 abbrev pub Free : Group → List Item → Type 0
-Free h xs = All (λ x. struck h x.dot ≡ false) xs
+Free h xs = AllByRecursion (λ x. struck h x.dot ≡ false) xs
 
 pub unstruck_strike : (h : Group) (p : ℕ) (d : Dot) (xs : List Item) → Unstruck h p xs → Unstruck h p (strike_items d xs)
 unstruck_strike h p d xs u = subst (Free h) (sym (kept_turned (in_part p) (lacks d) xs)) (all_kept_by (lacks d) (λ x. struck h x.dot ≡ false) (filter (in_part p) xs) u)
@@ -119,7 +119,7 @@ module _ (h : Group) (p : ℕ) (xs : List Item) (i : ℕ) (z : Item) (e : Some z
   turn_spared s = free_more h (filter (in_part p) xs) i z (within (filter (in_part p) xs) i z e) e s f
 
 -- once no part has an item that is struck, nothing is left to strike
-pub all_free : (h : Group) (n : ℕ) (xs : List Item) → All (λ x. x.part < n) xs → ((q : ℕ) → q < n → Unstruck h q xs) → Free h xs
+pub all_free : (h : Group) (n : ℕ) (xs : List Item) → AllByRecursion (λ x. x.part < n) xs → ((q : ℕ) → q < n → Unstruck h q xs) → Free h xs
 all_free h n [] a u = tt
 all_free h n (x ∷ xs) a u = (
   (subst (λ zs. Free h zs) (cond-true (in_part x.part x) (x ∷ filter (in_part x.part) xs) (filter (in_part x.part) xs) (eq-eqb x.part x.part refl)) (u x.part a.0)).0,

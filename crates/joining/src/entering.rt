@@ -2,7 +2,7 @@
 ghost use Rattle.std.specs.Prelude.{◌≡◌, ℕ, ◌≤◌, true, slice_index};
 ghost use Rattle.contexts.specs.Contexts.{runs_of};
 ghost use Rattle.joining.specs.Entering.{shut, enter_all};
-ghost use Rattle.std.specs.List.{AllByRecursion as All};
+ghost use Rattle.std.specs.List.{AllByRecursion};
 ghost use Rattle.stores.specs.Items.{count_part, stands};
 ghost use Rattle.stores.specs.Sound.{Proper};
 
@@ -15,7 +15,7 @@ use stores::order::{dots_equal, stands_before};
 // Puts in every entry of the group whose dot the context lacks or the store has. Where each part has room for the outcome, each put is done.
 pub fn enter_group<S: DotStore, G: GroupSource>(store: &mut S, context: &Context, group: &G)
     ensures room { S.DotStore.sound store.old → S.DotStore.capacities store.new ≡ S.DotStore.capacities store.old }
-    ensures after { S.DotStore.sound store.old → G.GroupSource.sound group.now → All (Proper S.DotStore.kinds) (G.GroupSource.group group.now).items
+    ensures after { S.DotStore.sound store.old → G.GroupSource.sound group.now → AllByRecursion (Proper S.DotStore.kinds) (G.GroupSource.group group.now).items
         → ((p : ℕ) → count_part p (enter_all S.DotStore.kinds (runs_of context.now) (S.DotStore.entries store.old) (G.GroupSource.group group.now).items) ≤ slice_index (S.DotStore.capacities store.old) p)
         → S.DotStore.entries store.new ≡ enter_all S.DotStore.kinds (runs_of context.now) (S.DotStore.entries store.old) (G.GroupSource.group group.now).items }
     ensures stays { S.DotStore.sound store.old → S.DotStore.sound store.new }

@@ -3,7 +3,7 @@ ghost use Rattle.std.specs.Prelude.{◌≡◌, ℕ, false, not, filter};
 ghost use Rattle.contexts.specs.Contexts.{runs_of};
 ghost use Rattle.joining.specs.Questions.{struck};
 ghost use Rattle.joining.specs.Strikes.{remaining, Unstruck};
-ghost use Rattle.std.specs.List.{AllByRecursion as All};
+ghost use Rattle.std.specs.List.{AllByRecursion};
 ghost use Rattle.stores.specs.Items.{in_part};
 
 use crate::dots::is_struck;

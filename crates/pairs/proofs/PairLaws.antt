@@ -1,6 +1,6 @@
 -- What the calls of a pair come to.
 use Rattle.std.proofs.Common.{◌≡◌, ℕ, zero, suc, ◌+◌, ◌-◌, ◌<◌, ◌≤◌, Bool, true, false, cond, not, ◌&&◌, ◌||◌, eqb, leb, List, [], ◌∷◌, ◌++◌, map, length, get_or, take, is_some, IfSome, Some, None, filter, Option, sym, refl, ap, ◌∙◌, subst, ap₂, inl, inr, arith}
-use Rattle.std.specs.List.{slice_get, AllByRecursion as All}
+use Rattle.std.specs.List.{slice_get, AllByRecursion}
 use Rattle.std.specs.Option.{option_map}
 use Rattle.std.proofs.lemmas.Bool.{cases_Bool, cases_eq, cond-true, cond-false, cond_both, and_left, or_left, or_right, or_cases, ne_eqb, eq-eqb, both_ways}
 use Rattle.std.proofs.lemmas.List.Elements.{filter-append}
@@ -25,11 +25,11 @@ use Rattle.stores.proofs.Stays.{cond_out, some_none, absent_from, misfit_told}
 
 -- lists in general
 
-all_of : {X : Type 0} (P : X → Type 0) → ((x : X) → P x) → (xs : List X) → All P xs
+all_of : {X : Type 0} (P : X → Type 0) → ((x : X) → P x) → (xs : List X) → AllByRecursion P xs
 all_of P h [] = tt
 all_of P h (x ∷ xs) = (h x, all_of P h xs)
 
-all_right : {X : Type 0} (P : X → Type 0) (xs ys : List X) → All P (xs ++ ys) → All P ys
+all_right : {X : Type 0} (P : X → Type 0) (xs ys : List X) → AllByRecursion P (xs ++ ys) → AllByRecursion P ys
 all_right P [] ys h = h
 all_right P (x ∷ xs) ys h = all_right P xs ys h.1
 
@@ -37,15 +37,15 @@ kept_map : {X Y : Type 0} (f : Y → Bool) (m : X → Y) (xs : List X) → filte
 kept_map f m [] = refl
 kept_map f m (x ∷ xs) = ap (λ ys. cond (f (m x)) (m x ∷ ys) ys) (kept_map f m xs) ∙ cond_out (map m) (f (m x)) (x ∷ filter (λ y. f (m y)) xs) (filter (λ y. f (m y)) xs)
 
-kept_same : {X : Type 0} (f g : X → Bool) (xs : List X) → All (λ x. f x ≡ g x) xs → filter f xs ≡ filter g xs
+kept_same : {X : Type 0} (f g : X → Bool) (xs : List X) → AllByRecursion (λ x. f x ≡ g x) xs → filter f xs ≡ filter g xs
 kept_same f g [] h = refl
 kept_same f g (x ∷ xs) h = ap₂ (λ b ys. cond b (x ∷ ys) ys) h.0 (kept_same f g xs h.1)
 
-kept_none : {X : Type 0} (f : X → Bool) (xs : List X) → All (λ x. f x ≡ false) xs → filter f xs ≡ []
+kept_none : {X : Type 0} (f : X → Bool) (xs : List X) → AllByRecursion (λ x. f x ≡ false) xs → filter f xs ≡ []
 kept_none f [] h = refl
 kept_none f (x ∷ xs) h = cond-false (f x) (x ∷ filter f xs) (filter f xs) h.0 ∙ kept_none f xs h.1
 
-map_same : {X : Type 0} (f : X → X) (xs : List X) → All (λ x. f x ≡ x) xs → map f xs ≡ xs
+map_same : {X : Type 0} (f : X → X) (xs : List X) → AllByRecursion (λ x. f x ≡ x) xs → map f xs ≡ xs
 map_same f [] h = refl
 map_same f (x ∷ xs) h = ap₂ (λ y ys. y ∷ ys) h.0 (map_same f xs h.1)
 
@@ -110,7 +110,7 @@ module _ (n p : ℕ) (xs ys : List Item) where
       ∙ ap (λ zs. filter (in_part p) xs ++ zs) (kept_map (in_part p) (raise n) ys ∙ ap (map (raise n)) (kept_none (λ y. in_part p (raise n y)) ys (all_of (λ y. in_part p (raise n y) ≡ false) (λ y. ne_eqb (n + y.part) p (λ e. omega arith)) ys)))
       ∙ append-nil (filter (in_part p) xs)
 
-  part_high : All (λ x. x.part < n) xs → n ≤ p → filter (in_part p) (both n xs ys) ≡ map (raise n) (filter (in_part (p - n)) ys)
+  part_high : AllByRecursion (λ x. x.part < n) xs → n ≤ p → filter (in_part p) (both n xs ys) ≡ map (raise n) (filter (in_part (p - n)) ys)
   part_high low h =
       filter-append (in_part p) xs (map (raise n) ys)
       ∙ ap₂ (λ us vs. us ++ vs)
@@ -120,7 +120,7 @@ module _ (n p : ℕ) (xs ys : List Item) where
   pub count_low : p < n → count_part p (both n xs ys) ≡ count_part p xs
   count_low h = ap length (part_low h)
 
-  pub count_high : All (λ x. x.part < n) xs → n ≤ p → count_part p (both n xs ys) ≡ count_part (p - n) ys
+  pub count_high : AllByRecursion (λ x. x.part < n) xs → n ≤ p → count_part p (both n xs ys) ≡ count_part (p - n) ys
   count_high low h = ap length (part_high low h) ∙ length-map (filter (in_part (p - n)) ys) (raise n)
 
   pub entry_low : (i : ℕ) → p < n → entry_at p i (both n xs ys) ≡ entry_at p i xs
@@ -132,7 +132,7 @@ module _ (n p : ℕ) (xs ys : List Item) where
       let make : ℕ → Option Item = λ q. Some (record { part = q; place = e.place; dot = e.dot; code = e.value }) in
       let s : p ≡ n + (p - n) = omega arith in ap make s
 
-  pub entry_high : (i : ℕ) → All (λ x. x.part < n) xs → n ≤ p → (r : Option (Entry ℕ)) → option_map (item_at (p - n)) r ≡ entry_at (p - n) i ys → option_map (item_at p) r ≡ entry_at p i (both n xs ys)
+  pub entry_high : (i : ℕ) → AllByRecursion (λ x. x.part < n) xs → n ≤ p → (r : Option (Entry ℕ)) → option_map (item_at (p - n)) r ≡ entry_at (p - n) i ys → option_map (item_at p) r ≡ entry_at p i (both n xs ys)
   entry_high i low h r e = item_raised h r ∙ ap (option_map (raise n)) e ∙ sym (nth_map (raise n) (filter (in_part (p - n)) ys) i) ∙ ap (λ zs. slice_get zs i) (sym (part_high low h))
 
 -- a dot in the two
@@ -153,7 +153,7 @@ pub find_raise : (n : ℕ) (d : Dot) (ys : List Item) → find d (map (raise n) 
 find_raise n d [] = refl
 find_raise n d (y ∷ ys) = ap (cond (has_dot d y) (Some (raise n y))) (find_raise n d ys) ∙ cond_out (option_map (raise n)) (has_dot d y) (Some y) (find d ys)
 
-pub find_all : (P : Item → Type 0) (d : Dot) (xs : List Item) → All P xs → IfSome (find d xs) P
+pub find_all : (P : Item → Type 0) (d : Dot) (xs : List Item) → AllByRecursion P xs → IfSome (find d xs) P
 find_all P d [] h = tt
 find_all P d (x ∷ xs) h = cond_both (has_dot d x) (Some x) (find d xs) (λ o. IfSome o P) (λ _. h.0) (λ _. find_all P d xs h.1)
 
@@ -183,7 +183,7 @@ found_first n d x xs ys f = ap (λ o. or_else o (find d (map (raise n) ys))) f �
 pub found_none : (n : ℕ) (d : Dot) (xs ys : List Item) → None ≡ find d xs → None ≡ find d ys → None ≡ find d (both n xs ys)
 found_none n d xs ys f s = ap (option_map (raise n)) s ∙ sym (find_raise n d ys) ∙ ap (λ o. or_else o (find d (map (raise n) ys))) f ∙ sym (find_append d xs (map (raise n) ys))
 
-pub found_part : (m : ℕ) (d : Dot) (x : Item) (ys : List Item) → All (λ y. y.part < m) ys → Some x ≡ find d ys → x.part < m
+pub found_part : (m : ℕ) (d : Dot) (x : Item) (ys : List Item) → AllByRecursion (λ y. y.part < m) ys → Some x ≡ find d ys → x.part < m
 found_part m d x ys h e = subst (λ o. IfSome o (λ y. y.part < m)) (sym e) (find_all (λ y. y.part < m) d ys h)
 
 or_assoc : (a b c : Bool) → (a || (b || c)) ≡ ((a || b) || c)
@@ -206,7 +206,7 @@ pub strike_both : (n : ℕ) (d : Dot) (xs ys : List Item) → strike_items d (bo
 strike_both n d xs ys = filter-append (lacks d) xs (map (raise n) ys) ∙ ap (λ zs. strike_items d xs ++ zs) (kept_map (lacks d) (raise n) ys)
 
 -- in a list whose dots are apart, a dot that stands in one part of it does not stand in the other
-apart_left : (d : Dot) (xs zs : List Item) → Apart (xs ++ zs) → stands d zs ≡ true → All (λ y. has_dot d y ≡ false) xs
+apart_left : (d : Dot) (xs zs : List Item) → Apart (xs ++ zs) → stands d zs ≡ true → AllByRecursion (λ y. has_dot d y ≡ false) xs
 apart_left d [] zs a s = tt
 apart_left d (x ∷ xs) zs a s = (
   elim (cases_Bool (has_dot d x)) [
@@ -216,7 +216,7 @@ apart_left d (x ∷ xs) zs a s = (
   apart_left d xs zs a.1 s,
 )
 
-apart_right : (d : Dot) (xs zs : List Item) → Apart (xs ++ zs) → stands d xs ≡ true → All (λ y. has_dot d y ≡ false) zs
+apart_right : (d : Dot) (xs zs : List Item) → Apart (xs ++ zs) → stands d xs ≡ true → AllByRecursion (λ y. has_dot d y ≡ false) zs
 apart_right d [] zs a s = absurd (both_ways false refl s)
 apart_right d (x ∷ xs) zs a s = elim (or_cases (has_dot d x) (stands d xs) s) [
   | inl t ↦ all_right (λ y. has_dot d y ≡ false) xs zs (rest_absent d x (xs ++ zs) t a.0)
@@ -240,7 +240,7 @@ insert_low n x (z ∷ xs) ys h =
     ap (λ w. cond (precedes z x) (z ∷ w) (x ∷ z ∷ both n xs ys)) (insert_low n x xs ys h)
     ∙ cond_out (λ w. w ++ map (raise n) ys) (precedes z x) (z ∷ insert_item x xs) (x ∷ z ∷ xs)
 
-insert_high : (x : Item) (xs zs : List Item) → All (λ y. precedes y x ≡ true) xs → insert_item x (xs ++ zs) ≡ xs ++ insert_item x zs
+insert_high : (x : Item) (xs zs : List Item) → AllByRecursion (λ y. precedes y x ≡ true) xs → insert_item x (xs ++ zs) ≡ xs ++ insert_item x zs
 insert_high x [] zs h = refl
 insert_high x (y ∷ xs) zs h = cond-true (precedes y x) (y ∷ insert_item x (xs ++ zs)) (x ∷ y ∷ (xs ++ zs)) h.0 ∙ ap (λ w. y ∷ w) (insert_high x xs zs h.1)
 
@@ -271,7 +271,7 @@ module _ (n : ℕ) (k : ValueKind) (xs ys : List Item) where
       ∙ ap₂ (cond (stands x.dot xs)) (map-append (merge_dot k x) xs rs ∙ ap (λ w. map (merge_dot k x) xs ++ w) (merge_absent k x rs (absent_from x.dot rs lacking))) (insert_low n x xs ys h)
       ∙ cond_out (λ w. w ++ rs) (stands x.dot xs) (map (merge_dot k x) xs) (insert_item x xs)
 
-  put_high : (x : Item) → All (λ y. y.part < n) xs → stands x.dot xs ≡ false → put_items k (raise n x) (both n xs ys) ≡ both n xs (put_items k x ys)
+  put_high : (x : Item) → AllByRecursion (λ y. y.part < n) xs → stands x.dot xs ≡ false → put_items k (raise n x) (both n xs ys) ≡ both n xs (put_items k x ys)
   put_high x low s =
       let rs = map (raise n) ys in
       ap (λ b. cond b (map (merge_dot k (raise n x)) (xs ++ rs)) (insert_item (raise n x) (xs ++ rs))) (stands_append x.dot xs rs ∙ ap₂ (λ a b. a || b) s (stands_raise n x.dot ys))
@@ -281,7 +281,7 @@ module _ (n : ℕ) (k : ValueKind) (xs ys : List Item) where
       ∙ cond_out (λ w. xs ++ map (raise n) w) (stands x.dot ys) (map (merge_dot k x) ys) (insert_item x ys)
 
   -- the dot stands in the other store
-  put_other : (x : Item) → stands x.dot (both n xs ys) ≡ true → All (λ y. merge_dot k x y ≡ y) (both n xs ys) → put_items k x (both n xs ys) ≡ both n xs ys
+  put_other : (x : Item) → stands x.dot (both n xs ys) ≡ true → AllByRecursion (λ y. merge_dot k x y ≡ y) (both n xs ys) → put_items k x (both n xs ys) ≡ both n xs ys
   put_other x s h = cond-true (stands x.dot (both n xs ys)) (map (merge_dot k x) (both n xs ys)) (insert_item x (both n xs ys)) s ∙ map_same (merge_dot k x) (both n xs ys) h
 
 accept_out : {X Y : Type 0} (f : X → Y) (o : Option Refusal) (x y : X) → accept o (f x) (f y) ≡ f (accept o x y)
@@ -305,7 +305,7 @@ accept_full : {X : Type 0} (p q : ℕ) (b : Bool) (x y : X) → accept (full_if 
 accept_full p q true x y = refl
 accept_full p q false x y = refl
 
-module _ (ka kb : List ValueKind) (ca cb : List ℕ) (xs ys : List Item) (p : ℕ) (e : Entry ℕ) (few : length ka ≤ most_parts) (long : length ca ≡ length ka) (low : All (λ x. x.part < length ka) xs) where
+module _ (ka kb : List ValueKind) (ca cb : List ℕ) (xs ys : List Item) (p : ℕ) (e : Entry ℕ) (few : length ka ≤ most_parts) (long : length ca ≡ length ka) (low : AllByRecursion (λ x. x.part < length ka) xs) where
   abbrev ws : List Item
   ws = both (length ka) xs ys
 
@@ -327,7 +327,7 @@ module _ (ka kb : List ValueKind) (ca cb : List ℕ) (xs ys : List Item) (p : �
       pub stood : None ≡ put_refusal ks cs ws p e
       stood = sym (refusal_is ∙ ap (full_if p) (and_left (not (stands e.dot ws)) (leb (get_or cs p 0) (count_part p ws)) (ap not s)))
 
-      stood_after : All (λ y. (k : ValueKind) → merge_dot k (item_at p e) y ≡ y) ws → ws ≡ put_after ks cs ws p e
+      stood_after : AllByRecursion (λ y. (k : ValueKind) → merge_dot k (item_at p e) y ≡ y) ws → ws ≡ put_after ks cs ws p e
       stood_after h = go (slice_get ks p) ∙ ap (λ o. accept o (put_of (slice_get ks p) (item_at p e) ws) ws) stood
         where
           go : (o : Option ValueKind) → ws ≡ put_of o (item_at p e) ws
@@ -342,7 +342,7 @@ module _ (ka kb : List ValueKind) (ca cb : List ℕ) (xs ys : List Item) (p : �
           (All-weaker (λ y. has_dot e.dot y ≡ false) Q (λ y f k. other_dot k (item_at p e) y f) xs (apart_left e.dot xs (map (raise n) ys) a (stands_raise n e.dot ys ∙ t)))
           (raised ys))
         where
-          raised : (vs : List Item) → All (λ y. (k : ValueKind) → merge_dot k (item_at p e) y ≡ y) (map (raise (length ka)) vs)
+          raised : (vs : List Item) → AllByRecursion (λ y. (k : ValueKind) → merge_dot k (item_at p e) y ≡ y) (map (raise (length ka)) vs)
           raised [] = tt
           raised (v ∷ vs) = ((λ k. other_part k (item_at p e) (raise (length ka) v) (λ q. omega arith)), raised vs)
 

@@ -1,7 +1,7 @@
 -- What is written is read back.
 use Rattle.std.proofs.Common.{◌≡◌, ℕ, suc, ◌+◌, ◌*◌, ◌/◌, ◌^◌, ◌<◌, ◌≤◌, true, false, not, ◌&&◌, ◌||◌, ltb, leb, List, [], ◌∷◌, ◌++◌, map, length, Some, None, Option, sym, refl, ap, ◌∙◌, subst, ap₂, append_assoc, append-nil, arith, length-append}
 use Rattle.std.proofs.lemmas.List.{length-map, map-append}
-use Rattle.std.specs.List.{flat_map, AllByRecursion as All, slice_get}
+use Rattle.std.specs.List.{flat_map, AllByRecursion, slice_get}
 use Rattle.std.proofs.lemmas.Bool.{cond-true, cond-false, lt-ltb, le-ltb, leb-true, and_parts, and_from, not_from_false}
 use Rattle.causal.specs.declared.dots.Dot.{Dot}
 use Rattle.causal.specs.declared.runs.Run.{Run}
@@ -80,7 +80,7 @@ module _ (ks : List ValueKind) where
   Chain o [] = Unit {0}
   Chain o (y ∷ ys) = (item_follows o y ≡ true) × Chain (Some y) ys
 
-  chain_on : (x : Item) (ys : List Item) → All (λ y. precedes x y ≡ true) ys → Ascends ys → Chain (Some x) ys
+  chain_on : (x : Item) (ys : List Item) → AllByRecursion (λ y. precedes x y ≡ true) ys → Ascends ys → Chain (Some x) ys
   chain_on x [] h a = tt
   chain_on x (y ∷ ys) h a = (h.0, chain_on y ys a.0 a.1)
 
@@ -93,7 +93,7 @@ module _ (ks : List ValueKind) where
       cond-true (ltb y.part (length ks)) _ _ (lt-ltb y.part (length ks) p.placed)
       ∙ cond-true (item_follows o y) _ _ f ∙ cond-true (fits_part ks y.part y.code) _ _ p.fits
 
-  reads_entries : (ys xs : List Item) (n left : ℕ) (tail : List ℕ) → Chain (last xs) ys → All (Proper ks) ys → All Narrow ys
+  reads_entries : (ys xs : List Item) (n left : ℕ) (tail : List ℕ) → Chain (last xs) ys → AllByRecursion (Proper ks) ys → AllByRecursion Narrow ys
       → scan ks xs [] n (length ys + left) (flat_map encoded (map entry_record ys) ++ tail) ≡ scan ks (xs ++ ys) [] (n + length ys) left tail
   reads_entries [] xs n left tail c p w =
       let a : 0 + left ≡ left = omega arith in
@@ -146,27 +146,27 @@ module _ (ks : List ValueKind) where
       ∙ ap₂ (λ zs k. scan ks xs zs k left tail) (append_assoc rs (q ∷ []) qs) b
 
   -- no dot is astray
-  not_among : (xs : List Item) (d : Dot) → All (λ x. same_dot x.dot d ≡ false) xs → among d (dots_of xs) ≡ false
+  not_among : (xs : List Item) (d : Dot) → AllByRecursion (λ x. same_dot x.dot d ≡ false) xs → among d (dots_of xs) ≡ false
   not_among [] d h = refl
   not_among (x ∷ xs) d h = ap (λ b. b || among d (dots_of xs)) h.0 ∙ not_among xs d h.1
 
-  all_more : {X : Type 0} (P : X → Type 0) (xs : List X) (x : X) → All P xs → P x → All P (xs ++ (x ∷ []))
+  all_more : {X : Type 0} (P : X → Type 0) (xs : List X) (x : X) → AllByRecursion P xs → P x → AllByRecursion P (xs ++ (x ∷ []))
   all_more P [] x h p = (p, tt)
   all_more P (y ∷ xs) x h p = (h.0, all_more P xs x h.1 p)
 
-  all_first : (xs : List Item) (y : Item) (ys : List Item) → All (λ x. All (λ z. same_dot x.dot z.dot ≡ false) (y ∷ ys)) xs → All (λ x. same_dot x.dot y.dot ≡ false) xs
+  all_first : (xs : List Item) (y : Item) (ys : List Item) → AllByRecursion (λ x. AllByRecursion (λ z. same_dot x.dot z.dot ≡ false) (y ∷ ys)) xs → AllByRecursion (λ x. same_dot x.dot y.dot ≡ false) xs
   all_first [] y ys h = tt
   all_first (x ∷ xs) y ys h = (h.0.0, all_first xs y ys h.1)
 
-  all_rest : (xs : List Item) (y : Item) (ys : List Item) → All (λ x. All (λ z. same_dot x.dot z.dot ≡ false) (y ∷ ys)) xs → All (λ x. All (λ z. same_dot x.dot z.dot ≡ false) ys) xs
+  all_rest : (xs : List Item) (y : Item) (ys : List Item) → AllByRecursion (λ x. AllByRecursion (λ z. same_dot x.dot z.dot ≡ false) (y ∷ ys)) xs → AllByRecursion (λ x. AllByRecursion (λ z. same_dot x.dot z.dot ≡ false) ys) xs
   all_rest [] y ys h = tt
   all_rest (x ∷ xs) y ys h = (h.0.1, all_rest xs y ys h.1)
 
-  all_turned : (y : Item) (ys : List Item) → All (λ z. has_dot y.dot z ≡ false) ys → All (λ z. same_dot y.dot z.dot ≡ false) ys
+  all_turned : (y : Item) (ys : List Item) → AllByRecursion (λ z. has_dot y.dot z ≡ false) ys → AllByRecursion (λ z. same_dot y.dot z.dot ≡ false) ys
   all_turned y [] h = tt
   all_turned y (z ∷ ys) h = (dot_turned z.dot y.dot h.0, all_turned y ys h.1)
 
-  no_stray : (rs : List Run) (ys xs : List Item) (n : ℕ) → All (λ x. All (λ z. same_dot x.dot z.dot ≡ false) ys) xs → Apart ys → All (Known rs) ys → stray rs (dots_of xs) n (dots_of ys) ≡ None
+  no_stray : (rs : List Run) (ys xs : List Item) (n : ℕ) → AllByRecursion (λ x. AllByRecursion (λ z. same_dot x.dot z.dot ≡ false) ys) xs → Apart ys → AllByRecursion (Known rs) ys → stray rs (dots_of xs) n (dots_of ys) ≡ None
   no_stray rs [] xs n h a k = refl
   no_stray rs (y ∷ ys) xs n h a k =
       cond-true (has rs y.dot && not (among y.dot (dots_of xs))) _ _ (and_from (has rs y.dot) (not (among y.dot (dots_of xs))) k.0 (not_from_false (among y.dot (dots_of xs)) (not_among xs y.dot (all_first xs y ys h))))

@@ -1,6 +1,6 @@
 -- What is read is written again as the same bytes, and is a well-formed group.
 use Rattle.std.proofs.Common.{◌≡◌, ℕ, zero, suc, ◌+◌, ◌*◌, ◌/◌, ◌^◌, ◌<◌, ◌≤◌, Bool, true, false, cond, not, ◌&&◌, ltb, List, [], ◌∷◌, ◌++◌, map, length, take, drop, Some, None, Option, sym, refl, ap, ◌∙◌, subst, ap₂, ⊎_elim, append_assoc, arith, length-append, length-drop, length-take, take-add}
-use Rattle.std.specs.List.{flat_map, AllByRecursion as All, slice_get}
+use Rattle.std.specs.List.{flat_map, AllByRecursion, slice_get}
 use Rattle.std.proofs.ByRecursion.{All-take, All-drop, All-append}
 use Rattle.std.proofs.lemmas.List.{map-append, drop-drop}
 use Rattle.std.proofs.lemmas.Bool.{ltb-true, and_parts, not-true, false≢true, cases_Bool, or_left, or_right, or_cases}
@@ -61,7 +61,7 @@ entry_good ks y rs n x e =
 
 pub record Good (ks : List ValueKind) (xs : List Item) (rs : List Run) : Type 0 where
   pub ascends : Ascends xs
-  pub proper : All (Proper ks) xs
+  pub proper : AllByRecursion (Proper ks) xs
   pub one_form : canonical rs ≡ true
   pub few : length rs ≤ most_runs
 
@@ -83,7 +83,7 @@ stray_told rs seen n d ds e =
     let b = and_parts (has rs d) (not (among d seen)) a.0 in
     (b.0, not-true (among d seen) b.1, a.1)
 
-all_known : (rs : List Run) (seen : List Dot) (n : ℕ) (xs : List Item) → stray rs seen n (dots_of xs) ≡ None → All (Known rs) xs
+all_known : (rs : List Run) (seen : List Dot) (n : ℕ) (xs : List Item) → stray rs seen n (dots_of xs) ≡ None → AllByRecursion (Known rs) xs
 all_known rs seen n [] e = tt
 all_known rs seen n (x ∷ xs) e = let h = stray_told rs seen n x.dot (dots_of xs) e in (h.0, all_known rs (seen ++ (x.dot ∷ [])) (n + 1) xs h.2)
 
@@ -100,7 +100,7 @@ not_seen : (d e : Dot) (seen : List Dot) → among d seen ≡ true → among e s
 not_seen d e seen p q = ⊎_elim (λ t. absurd (false≢true (sym q ∙ ap (λ c. among c seen) (dot_equal e d t) ∙ p))) (λ t. t) (cases_Bool (same_dot e d))
 
 -- a dot that was seen comes no more
-not_again : (rs : List Run) (d : Dot) (seen : List Dot) (n : ℕ) (xs : List Item) → among d seen ≡ true → stray rs seen n (dots_of xs) ≡ None → All (λ x. has_dot d x ≡ false) xs
+not_again : (rs : List Run) (d : Dot) (seen : List Dot) (n : ℕ) (xs : List Item) → among d seen ≡ true → stray rs seen n (dots_of xs) ≡ None → AllByRecursion (λ x. has_dot d x ≡ false) xs
 not_again rs d seen n [] a e = tt
 not_again rs d seen n (x ∷ xs) a e =
     let h = stray_told rs seen n x.dot (dots_of xs) e in
@@ -272,15 +272,15 @@ record_fits bs (of_origin o) u d =
     let fits : (origin_in (fields_of bs)).until < 2 ^ 32 = let a = w.third in let b = w.fourth in omega arith in
     (record_in_range (fields_of bs) (of_origin o) d, subst (λ (q : Origin). q.until < 2 ^ 32) (decoded_origin bs o d) fits)
 
-chunks_fit : (bs : List ℕ) (rs : List Record) → Bytes bs → Chunks bs rs → All Fitting rs
+chunks_fit : (bs : List ℕ) (rs : List Record) → Bytes bs → Chunks bs rs → AllByRecursion Fitting rs
 chunks_fit bs [] u h = tt
 chunks_fit bs (r ∷ rs) u h = (record_fits (take 24 bs) r (All-take (λ b. b < 256) 24 bs u) h.0, chunks_fit (drop 24 bs) rs (All-drop (λ b. b < 256) 24 bs u) h.1)
 
-items_fit : (xs : List Item) (rest : List Record) → All Fitting (map entry_record xs ++ rest) → All Narrow xs × All Fitting rest
+items_fit : (xs : List Item) (rest : List Record) → AllByRecursion Fitting (map entry_record xs ++ rest) → AllByRecursion Narrow xs × AllByRecursion Fitting rest
 items_fit [] rest h = (tt, h)
 items_fit (x ∷ xs) rest h = let k = items_fit xs rest h.1 in ((h.0, k.0), k.1)
 
-runs_fit : (rs : List Run) (rest : List Record) → All Fitting (map of_run rs ++ rest) → All Fitting rest
+runs_fit : (rs : List Run) (rest : List Record) → AllByRecursion Fitting (map of_run rs ++ rest) → AllByRecursion Fitting rest
 runs_fit [] rest h = h
 runs_fit (r ∷ rs) rest h = runs_fit rs rest h.1
 

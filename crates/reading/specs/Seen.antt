@@ -1,6 +1,6 @@
 -- Bits that say which dots have come.
 use Rattle.std.specs.Prelude.{◌≡◌, ℕ, ◌+◌, ◌*◌, ◌/◌, ◌%◌, ◌^◌, Bool, true, List, ◌==◌, slice_index}
-use Rattle.std.specs.List.{AllByRecursion as All}
+use Rattle.std.specs.List.{AllByRecursion}
 use Rattle.causal.specs.declared.dots.Dot.{Dot}
 
 -- the number of a dot's bit, of 1,048,576
@@ -13,4 +13,4 @@ is_set bytes bit = slice_index bytes (bit / 8) / 2 ^ (bit % 8) % 2 == 1
 
 -- the bits of all these dots are set
 abbrev pub AllSet : List ℕ → List Dot → Type 0
-AllSet bytes ds = All (λ d. is_set bytes (bit_of d) ≡ true) ds
+AllSet bytes ds = AllByRecursion (λ d. is_set bytes (bit_of d) ≡ true) ds

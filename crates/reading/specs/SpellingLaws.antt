@@ -1,6 +1,6 @@
 -- Every group has one spelling.
 use Rattle.std.specs.Prelude.{◌≡◌, ℕ, ◌*◌, ◌<◌, List, ◌++◌, take}
-use Rattle.std.specs.List.{AllByRecursion as All}
+use Rattle.std.specs.List.{AllByRecursion}
 use Rattle.kinds.specs.Kinds.{ValueKind}
 use Rattle.groups.specs.Groups.{Group, Formed}
 use Rattle.records.specs.declared.record.Origin.{Origin}
@@ -9,7 +9,7 @@ use Rattle.records.specs.Written.{written, record_count, Writable}
 
 -- bytes, as numbers
 abbrev pub Bytes : List ℕ → Type 0
-Bytes bytes = All (λ b. b < 256) bytes
+Bytes bytes = AllByRecursion (λ b. b < 256) bytes
 
 pub record OneSpelling (ks : List ValueKind) : Type 0 where
   -- what is written is read back, whatever follows it

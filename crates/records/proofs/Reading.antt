@@ -1,6 +1,6 @@
 -- Records and bytes are each told by the other.
 use Rattle.std.proofs.Common.{◌≡◌, ℕ, ◌+◌, ◌*◌, ◌/◌, ◌%◌, ◌<◌, Bool, true, false, cond, eqb, ◌⊎◌, List, length, Some, None, sym, refl, ap, ◌∙◌, inl, inr, ⊎_elim, arith}
-use Rattle.std.specs.List.{AllByRecursion as All}
+use Rattle.std.specs.List.{AllByRecursion}
 use Rattle.std.proofs.lemmas.Bool.{and_parts, eqb-true, cond-true}
 use Rattle.causal.specs.declared.places.Place.{Place}
 use Rattle.causal.specs.Runs.{is_run, dot}
@@ -133,7 +133,7 @@ record_in_range f r e =
 pub decoded_encoded : (r : Record) → Narrow (fields_for r) → is_record r ≡ true → decoded (encoded r) ≡ Some r
 decoded_encoded r n h = ap record_of (fields_back (fields_for r) n) ∙ record_back r h
 
-pub encoded_decoded : (bs : List ℕ) (r : Record) → length bs ≡ 24 → All (λ b. b < 256) bs → decoded bs ≡ Some r → encoded r ≡ bs
+pub encoded_decoded : (bs : List ℕ) (r : Record) → length bs ≡ 24 → AllByRecursion (λ b. b < 256) bs → decoded bs ≡ Some r → encoded r ≡ bs
 encoded_decoded bs r l u e = ap spelled (fields_for_back (fields_of bs) r (bytes_narrow bs u) e) ∙ spelled_back bs l u
 
 -- an entry that is read is the one in the fields

@@ -1,6 +1,6 @@
 -- Fields and bytes are each told by the other.
 use Rattle.std.proofs.Common.{◌≡◌, ℕ, zero, suc, ◌+◌, ◌*◌, ◌%◌, ◌^◌, ◌<◌, List, [], ◌∷◌, map, length, get_or, sym, refl, ◌∙◌, arith}
-use Rattle.std.specs.List.{range_with_len, AllByRecursion as All}
+use Rattle.std.specs.List.{range_with_len, AllByRecursion}
 use Rattle.std.proofs.lemmas.List.FromFn.{fill_by_all}
 use Rattle.records.specs.declared.fields.Fields.{Fields}
 use Rattle.records.specs.Fields.{two, fields_of, byte, spelled}
@@ -80,7 +80,7 @@ fields_back f h = λ i. record {
   code = eight_back f.code h.code i;
 }
 
-under : (bs : List ℕ) → All (λ b. b < 256) bs → (k : ℕ) → get_or bs k 0 < 256
+under : (bs : List ℕ) → AllByRecursion (λ b. b < 256) bs → (k : ℕ) → get_or bs k 0 < 256
 under [] h k = omega arith
 under (b ∷ bs) h zero = h.0
 under (b ∷ bs) h (suc k) = under bs h.1 k
@@ -117,10 +117,10 @@ module _ (bs : List ℕ) (u : (k : ℕ) → get_or bs k 0 < 256) where
       ∷ hi 8 i ∷ lo 8 i ∷ hi 10 i ∷ lo 10 i ∷ hi 12 i ∷ lo 12 i ∷ hi 14 i ∷ lo 14 i
       ∷ c0 i ∷ c1 i ∷ c2 i ∷ c3 i ∷ c4 i ∷ c5 i ∷ c6 i ∷ c7 i ∷ []
 
-pub spelled_back : (bs : List ℕ) → length bs ≡ 24 → All (λ b. b < 256) bs → spelled (fields_of bs) ≡ bs
+pub spelled_back : (bs : List ℕ) → length bs ≡ 24 → AllByRecursion (λ b. b < 256) bs → spelled (fields_of bs) ≡ bs
 spelled_back bs l h = each bs (under bs h) ∙ sym (fill_by_all (λ k. get_or bs k 0) bs 24 0 l (λ k p. refl))
 
-pub bytes_narrow : (bs : List ℕ) → All (λ b. b < 256) bs → Narrow (fields_of bs)
+pub bytes_narrow : (bs : List ℕ) → AllByRecursion (λ b. b < 256) bs → Narrow (fields_of bs)
 bytes_narrow bs h =
     let u = under bs h in
     let t = two_under bs u in

@@ -1,6 +1,6 @@
 -- A group as bytes: its items, its runs, and its origin, one record each.
 use Rattle.std.specs.Prelude.{◌≡◌, ℕ, ◌+◌, ◌*◌, ◌/◌, ◌^◌, ◌<◌, ◌≤◌, true, cond, List, [], ◌∷◌, ◌++◌, map, length, take, drop, Ok, Err, Option, Result, nat_lt}
-use Rattle.std.specs.List.{flat_map, AllByRecursion as All}
+use Rattle.std.specs.List.{flat_map, AllByRecursion}
 use Rattle.refusals.specs.declared.Refusal.{Refusal}
 use Rattle.refusals.specs.Table.{refused, refuse_if}
 use Rattle.contexts.specs.Contexts.{most_runs}
@@ -37,7 +37,7 @@ pub record Narrow (x : Item) : Type 0 where
 -- a group that can be written and read back: few runs, narrow items, and an origin whose numbers fit theirs
 pub record Writable (g : Group) (o : Origin) : Type 0 where
   pub few : length g.runs ≤ most_runs
-  pub narrow : All Narrow g.items
+  pub narrow : AllByRecursion Narrow g.items
   pub origin : is_origin o ≡ true
   pub until_fits : o.until < 2 ^ 32
 

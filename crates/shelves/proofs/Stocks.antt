@@ -1,6 +1,6 @@
 -- When a parcel fits, and what then holds of the parcels.
 use Rattle.std.proofs.Common.{◌≡◌, ℕ, zero, suc, ◌+◌, ◌*◌, ◌/◌, ◌%◌, ◌<◌, ◌≤◌, true, ◌||◌, eqb, ltb, leb, List, [], ◌∷◌, ◌++◌, map, length, take, drop, Some, None, sum, sym, refl, ap, ◌∙◌, ⊎_elim, arith}
-use Rattle.std.specs.List.{remove, slice_get, AllByRecursion as All}
+use Rattle.std.specs.List.{remove, slice_get, AllByRecursion}
 use Rattle.std.proofs.lemmas.List.Sums.{sum_by-cons}
 use Rattle.std.proofs.lemmas.List.{length_push}
 use Rattle.std.proofs.lemmas.List.Edits.{length-remove}
@@ -48,7 +48,7 @@ held_removed (q ∷ ps) zero = omega arith
 held_removed (q ∷ ps) (suc i) = let h = held_removed ps i in omega arith
 
 -- whole parcels have 24 bytes for each record
-pub sum_held : (ps : List (List ℕ)) → All (λ p. whole (length p) ≡ true) ps → sum (map length ps) ≡ 24 * held ps
+pub sum_held : (ps : List (List ℕ)) → AllByRecursion (λ p. whole (length p) ≡ true) ps → sum (map length ps) ≡ 24 * held ps
 sum_held [] a = refl
 sum_held (p ∷ ps) a =
     let s = sum_by-cons (λ x. x) (length p) (map length ps) in

@@ -1,7 +1,7 @@
 -- What a shelf holds, when a call is refused, and what a call answers and leaves.
 -- A parcel is a list of bytes, and a shelf holds a list of parcels.
 use Rattle.std.specs.Prelude.{◌≡◌, ℕ, ◌+◌, ◌*◌, ◌/◌, ◌%◌, ◌≤◌, Bool, true, cond, ◌&&◌, ◌||◌, List, [], ◌∷◌, ◌++◌, length, take, drop, replicate, Some, None, Ok, Err, Option, Result, ◌==◌, nat_le, nat_lt}
-use Rattle.std.specs.List.{remove, AllByRecursion as All}
+use Rattle.std.specs.List.{remove, AllByRecursion}
 use Rattle.refusals.specs.declared.Refusal.{Refusal}
 use Rattle.refusals.specs.Table.{refused}
 use Rattle.shelves.specs.declared.fault.ShelfFault.{ShelfFault}
@@ -99,6 +99,6 @@ fault_refusal (Some f) = Some (shelf_fault f)
 -- what holds of the parcels on every sound shelf of these sizes
 pub record Within (z : Sizes) (ps : List (List ℕ)) : Type 0 where
   pub few : length ps ≤ z.most
-  pub whole : All (λ p. whole (length p) ≡ true) ps
-  pub short : All (λ p. records p ≤ z.longest) ps
+  pub whole : AllByRecursion (λ p. whole (length p) ≡ true) ps
+  pub short : AllByRecursion (λ p. records p ≤ z.longest) ps
   pub held : held ps ≤ z.room

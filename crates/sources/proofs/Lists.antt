@@ -1,13 +1,13 @@
 -- Filters that keep the same or all, and the element at an index of two lists end to end.
 use Rattle.std.proofs.Common.{◌≡◌, ℕ, zero, suc, ◌-◌, ◌<◌, ◌≤◌, Bool, true, cond, List, [], ◌∷◌, ◌++◌, length, filter, refl, ap, ◌∙◌, ap₂, arith}
-use Rattle.std.specs.List.{slice_get, AllByRecursion as All}
+use Rattle.std.specs.List.{slice_get, AllByRecursion}
 use Rattle.std.proofs.lemmas.Bool.{cond-true}
 
-pub kept_same : {X : Type 0} (f g : X → Bool) (xs : List X) → All (λ x. f x ≡ g x) xs → filter f xs ≡ filter g xs
+pub kept_same : {X : Type 0} (f g : X → Bool) (xs : List X) → AllByRecursion (λ x. f x ≡ g x) xs → filter f xs ≡ filter g xs
 kept_same f g [] h = refl
 kept_same f g (x ∷ xs) h = ap₂ (λ b zs. cond b (x ∷ zs) zs) h.0 (kept_same f g xs h.1)
 
-pub kept_all : {X : Type 0} (f : X → Bool) (xs : List X) → All (λ x. f x ≡ true) xs → filter f xs ≡ xs
+pub kept_all : {X : Type 0} (f : X → Bool) (xs : List X) → AllByRecursion (λ x. f x ≡ true) xs → filter f xs ≡ xs
 kept_all f [] h = refl
 kept_all f (x ∷ xs) h = cond-true (f x) (x ∷ filter f xs) (filter f xs) h.0 ∙ ap (λ zs. x ∷ zs) (kept_all f xs h.1)
 

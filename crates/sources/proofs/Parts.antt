@@ -1,6 +1,6 @@
 -- A store's items, in order through its parts.
 use Rattle.std.proofs.Common.{◌≡◌, ℕ, ◌+◌, ◌-◌, ◌<◌, ◌≤◌, true, false, ◌&&◌, eqb, ltb, leb, List, [], ◌∷◌, ◌++◌, length, None, filter, sym, refl, ap, ◌∙◌, ap₂, inl, inr, arith}
-use Rattle.std.specs.List.{slice_get, AllByRecursion as All}
+use Rattle.std.specs.List.{slice_get, AllByRecursion}
 use Rattle.std.proofs.ByRecursion.{All-weaker}
 use Rattle.std.proofs.lemmas.Bool.{cases_order, cond-true, cond-false, eq-eqb, ne_eqb, le-leb, lt-leb, or_cases, and_parts, ltb-true, eqb-true}
 use Rattle.stores.specs.Items.{Item, in_part, precedes, spot_less, Ascends}
@@ -16,11 +16,11 @@ part_order x y e = elim (or_cases (ltb x.part y.part) (eqb x.part y.part && spot
   | inr b ↦ let l = eqb-true x.part y.part (and_parts (eqb x.part y.part) _ b).0 in omega arith
 ]
 
-none_below : (p : ℕ) (xs : List Item) → All (λ y. p < y.part) xs → filter (in_part p) xs ≡ []
+none_below : (p : ℕ) (xs : List Item) → AllByRecursion (λ y. p < y.part) xs → filter (in_part p) xs ≡ []
 none_below p [] a = refl
 none_below p (x ∷ xs) a = let l = a.0 in cond-false (in_part p x) (x ∷ filter (in_part p) xs) (filter (in_part p) xs) (ne_eqb x.part p (λ e. omega arith)) ∙ none_below p xs a.1
 
-all_above : (p : ℕ) (xs : List Item) → All (λ y. p ≤ y.part) xs → from_part p xs ≡ xs
+all_above : (p : ℕ) (xs : List Item) → AllByRecursion (λ y. p ≤ y.part) xs → from_part p xs ≡ xs
 all_above p xs a = kept_all (λ x. leb p x.part) xs (All-weaker (λ y. p ≤ y.part) (λ y. leb p y.part ≡ true) (λ y l. le-leb p y.part l) xs a)
 
 -- in a list in order the items of a part come before those of the parts above
@@ -33,8 +33,8 @@ part_first p (x ∷ xs) a = elim (cases_order x.part p) [
     | inl l ↦ cond-false (leb p x.part) (x ∷ from_part p xs) (from_part p xs) (lt-leb p x.part l) ∙ part_first p xs a.1
         ∙ sym (ap₂ (λ us vs. us ++ vs) (cond-false (in_part p x) (x ∷ filter (in_part p) xs) (filter (in_part p) xs) (ne_eqb x.part p (λ e. omega arith))) (skip_above (lt-leb (p + 1) x.part (omega arith))))
     | inr g ↦
-        let later : All (λ y. p < y.part) xs = All-weaker (λ y. precedes x y ≡ true) (λ y. p < y.part) (λ y t. let o = part_order x y t in omega arith) xs a.0 in
-        let here : All (λ y. p < y.part) (x ∷ xs) = (g, later) in
+        let later : AllByRecursion (λ y. p < y.part) xs = All-weaker (λ y. precedes x y ≡ true) (λ y. p < y.part) (λ y t. let o = part_order x y t in omega arith) xs a.0 in
+        let here : AllByRecursion (λ y. p < y.part) (x ∷ xs) = (g, later) in
         all_above p (x ∷ xs) (All-weaker (λ y. p < y.part) (λ y. p ≤ y.part) (λ y l. omega arith) (x ∷ xs) here)
         ∙ sym (ap₂ (λ us vs. us ++ vs) (none_below p (x ∷ xs) here) (all_above (p + 1) (x ∷ xs) (All-weaker (λ y. p < y.part) (λ y. p + 1 ≤ y.part) (λ y l. omega arith) (x ∷ xs) here)))
   ]
@@ -49,11 +49,11 @@ part_first p (x ∷ xs) a = elim (cases_order x.part p) [
 pub from_none : (xs : List Item) → from_part 0 xs ≡ xs
 from_none xs = all_above 0 xs (low xs)
   where
-    low : (ys : List Item) → All (λ y. 0 ≤ y.part) ys
+    low : (ys : List Item) → AllByRecursion (λ y. 0 ≤ y.part) ys
     low [] = tt
     low (y ∷ ys) = (omega arith, low ys)
 
-pub from_end : (n : ℕ) (xs : List Item) (i : ℕ) → All (λ x. x.part < n) xs → slice_get (from_part n xs) i ≡ None
+pub from_end : (n : ℕ) (xs : List Item) (i : ℕ) → AllByRecursion (λ x. x.part < n) xs → slice_get (from_part n xs) i ≡ None
 from_end n [] i a = refl
 from_end n (x ∷ xs) i a = ap (λ zs. slice_get zs i) (cond-false (leb n x.part) (x ∷ from_part n xs) (from_part n xs) (lt-leb n x.part a.0)) ∙ from_end n xs i a.1
 
@@ -66,7 +66,7 @@ module _ (xs : List Item) (a : Ascends xs) (p i : ℕ) where
   in_later_part l = sym (ap (λ zs. slice_get zs i) (part_first p xs a) ∙ nth_rest (filter (in_part p) xs) (from_part (p + 1) xs) i l)
 
 -- no item stands in a part that is not there
-pub part_empty : (n : ℕ) (xs : List Item) (p i : ℕ) → All (λ x. x.part < n) xs → n ≤ p → None ≡ slice_get (filter (in_part p) xs) i
+pub part_empty : (n : ℕ) (xs : List Item) (p i : ℕ) → AllByRecursion (λ x. x.part < n) xs → n ≤ p → None ≡ slice_get (filter (in_part p) xs) i
 part_empty n [] p i a l = refl
 part_empty n (x ∷ xs) p i a l =
     let low = a.0 in

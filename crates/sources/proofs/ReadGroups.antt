@@ -19,7 +19,7 @@ use Rattle.reading.proofs.ReadBack.{length_records}
 use Rattle.reading.proofs.Rewrites.{chunk_at, read_records, as_many, read_within, read_few, read_formed}
 use Rattle.sources.specs.Sources.{Readable}
 use Rattle.sources.specs.Layouts.{entry_part, run_part, item_then, run_then, items_in, runs_in, group_in, record_in}
-use Rattle.sources.specs.declared.reading.ReadGroup.{ReadGroup}
+use Rattle.sources.specs.declared.read_groups.ReadGroup.{ReadGroup}
 use Rattle.sources.specs.Readings.{Holds, ReadAs, Answers, HoldsParcel, LeadsWith}
 use Rattle.sources.proofs.Lists.{nth_front, nth_rest}
 

@@ -7,7 +7,7 @@ use Rattle.records.specs.declared.record.Origin.{Origin}
 use Rattle.records.specs.declared.record.Record.{Record}
 use Rattle.reading.specs.Faults.{refusal_of}
 use Rattle.reading.specs.Reading.{Reading, faulty, complete, summary, parcel_group}
-use Rattle.sources.specs.declared.reading.ReadGroup.{ReadGroup}
+use Rattle.sources.specs.declared.read_groups.ReadGroup.{ReadGroup}
 use Rattle.sources.specs.Layouts.{Laid, entry_part, group_in, record_in}
 
 -- the first records, so many entries and so many runs, are those of the group

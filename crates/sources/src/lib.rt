@@ -2,7 +2,7 @@
 #![tactic(auto)]
 
 pub mod laid_group;
-pub mod reading;
+pub mod read_groups;
 pub mod record_list;
 mod record_parts;
 pub mod source;

@@ -1,6 +1,6 @@
 -- What look_ups find after a put and a strike; lists told by their look_ups; counts that add up.
 use Rattle.std.proofs.Common.{◌≡◌, ℕ, zero, suc, ◌+◌, ◌<◌, Bool, true, false, cond, not, eqb, ltb, ◌⊎◌, List, [], ◌∷◌, map, length, Some, None, Option, sym, refl, ap, ◌∙◌, subst, ap₂, inl, inr, arith}
-use Rattle.std.specs.List.{slice_get, AllByRecursion as All}
+use Rattle.std.specs.List.{slice_get, AllByRecursion}
 use Rattle.std.specs.Option.{option_map}
 use Rattle.std.proofs.lemmas.Bool.Decides.{nat_tests}
 use Rattle.std.proofs.lemmas.Bool.{cases_Bool, cond-true, cond-false, cond_both, or_parts, or_cases, both_ways, le-ltb, lt-ltb}
@@ -29,7 +29,7 @@ found_dot d [] x e = absurd (some_none (sym e))
 found_dot d (y ∷ ys) x e = elim (cond_split (has_dot d y) (Some y) (find d ys) (Some x) e)
     [ inl h ↦ ap (has_dot d) (sym (some_same y x h.1)) ∙ h.0 | inr h ↦ found_dot d ys x h.1 ]
 
-pub found_all : (P : Item → Type 0) (d : Dot) (xs : List Item) (x : Item) → All P xs → find d xs ≡ Some x → P x
+pub found_all : (P : Item → Type 0) (d : Dot) (xs : List Item) (x : Item) → AllByRecursion P xs → find d xs ≡ Some x → P x
 found_all P d [] x h e = absurd (some_none (sym e))
 found_all P d (y ∷ ys) x h e = elim (cond_split (has_dot d y) (Some y) (find d ys) (Some x) e)
     [ inl q ↦ subst P (some_same y x q.1) h.0 | inr q ↦ found_all P d ys x h.1 q.1 ]
@@ -141,7 +141,7 @@ find_strike e (x ∷ xs) d = elim (cases_Bool (has_dot e x)) [
 
 -- lists told by their look_ups
 
-find_rest : (x : Item) (xs : List Item) (d : Dot) → All (λ y. has_dot x.dot y ≡ false) xs → find d xs ≡ cond (has_dot d x) None (find d (x ∷ xs))
+find_rest : (x : Item) (xs : List Item) (d : Dot) → AllByRecursion (λ y. has_dot x.dot y ≡ false) xs → find d xs ≡ cond (has_dot d x) None (find d (x ∷ xs))
 find_rest x xs d a = elim (cases_Bool (has_dot d x)) [
   | inl t ↦ ap (λ c. find c xs) (sym (dot_equal x.dot d t)) ∙ find_absent x.dot xs (absent_stands x.dot xs a) ∙ sym (cond-true (has_dot d x) None (find d (x ∷ xs)) t)
   | inr f ↦ sym (cond-false (has_dot d x) None (find d (x ∷ xs)) f ∙ cond-false (has_dot d x) (Some x) (find d xs) f)
@@ -183,7 +183,7 @@ counts_first zero x xs = sym (cond-false (ltb x.part 0) 1 0 (le-ltb x.part 0 (om
 counts_first (suc n) x xs =
     ap₂ (λ a b. a + b) (counts_first n x xs) (count_first n x xs) ∙ add_step x.part n (count_parts n xs) (count_part n xs)
 
-pub counts_all : (n : ℕ) (xs : List Item) → All (λ x. x.part < n) xs → count_parts n xs ≡ length xs
+pub counts_all : (n : ℕ) (xs : List Item) → AllByRecursion (λ x. x.part < n) xs → count_parts n xs ≡ length xs
 counts_all n [] h = none n
   where
     none : (m : ℕ) → count_parts m [] ≡ 0

@@ -1,6 +1,6 @@
 -- Puts and strikes keep items orderly.
 use Rattle.std.proofs.Common.{◌≡◌, ℕ, zero, suc, ◌<◌, ◌≤◌, Bool, true, false, cond, not, ◌&&◌, eqb, leb, List, [], ◌∷◌, map, length, get_or, Some, None, filter, Option, sym, refl, ap, ◌∙◌, subst, ap₂, arith}
-use Rattle.std.specs.List.{slice_get, AllByRecursion as All}
+use Rattle.std.specs.List.{slice_get, AllByRecursion}
 use Rattle.std.proofs.lemmas.Bool.{cond_both, or_parts, both_ways, and_parts, eqb-true, leb-false}
 use Rattle.std.proofs.ByRecursion.{all_kept_by, All-weaker}
 use Rattle.causal.specs.declared.dots.Dot.{Dot}
@@ -56,7 +56,7 @@ count_kept p f (x ∷ xs) =
 -- a change of codes alone
 
 module _ (f : Item → Item) (code : Item → ℕ) (same : (x : Item) → f x ≡ recode x (code x)) where
-  all_order : (x : Item) (xs : List Item) → All (λ y. precedes x y ≡ true) xs → All (λ y. precedes (f x) y ≡ true) (map f xs)
+  all_order : (x : Item) (xs : List Item) → AllByRecursion (λ y. precedes x y ≡ true) xs → AllByRecursion (λ y. precedes (f x) y ≡ true) (map f xs)
   all_order x [] h = tt
   all_order x (y ∷ ys) h = (ap₂ precedes (same x) (same y) ∙ h.0, all_order x ys h.1)
 
@@ -64,7 +64,7 @@ module _ (f : Item → Item) (code : Item → ℕ) (same : (x : Item) → f x �
   ascends_map [] h = tt
   ascends_map (x ∷ xs) h = (all_order x xs h.0, ascends_map xs h.1)
 
-  all_apart : (x : Item) (xs : List Item) → All (λ y. has_dot x.dot y ≡ false) xs → All (λ y. has_dot (f x).dot y ≡ false) (map f xs)
+  all_apart : (x : Item) (xs : List Item) → AllByRecursion (λ y. has_dot x.dot y ≡ false) xs → AllByRecursion (λ y. has_dot (f x).dot y ≡ false) (map f xs)
   all_apart x [] h = tt
   all_apart x (y ∷ ys) h = (ap₂ (λ u v. has_dot u.dot v) (same x) (same y) ∙ h.0, all_apart x ys h.1)
 
@@ -84,9 +84,9 @@ merge_recodes k x y = cond_both (has_dot x.dot y) (merge k x y) y (λ z. z ≡ r
 
 -- an insertion
 
-pub all_insert : (P : Item → Type 0) (x : Item) (xs : List Item) → P x → All P xs → All P (insert_item x xs)
+pub all_insert : (P : Item → Type 0) (x : Item) (xs : List Item) → P x → AllByRecursion P xs → AllByRecursion P (insert_item x xs)
 all_insert P x [] p h = (p, tt)
-all_insert P x (y ∷ ys) p h = cond_both (precedes y x) (y ∷ insert_item x ys) (x ∷ y ∷ ys) (All P) (λ _. (h.0, all_insert P x ys p h.1)) (λ _. (p, h))
+all_insert P x (y ∷ ys) p h = cond_both (precedes y x) (y ∷ insert_item x ys) (x ∷ y ∷ ys) (AllByRecursion P) (λ _. (h.0, all_insert P x ys p h.1)) (λ _. (p, h))
 
 pub ascends_insert : (x : Item) (xs : List Item) → stands x.dot xs ≡ false → Ascends xs → Ascends (insert_item x xs)
 ascends_insert x [] s h = (tt, tt)
@@ -97,7 +97,7 @@ ascends_insert x (y ∷ ys) s h =
     (λ f. let before : precedes x y ≡ true = precedes_other y x o.0 f in
     ((before, All-weaker (λ z. precedes y z ≡ true) (λ z. precedes x z ≡ true) (λ z. precedes_transitive x y z before) ys h.0), h))
 
-pub absent_from : (d : Dot) (xs : List Item) → stands d xs ≡ false → All (λ y. has_dot d y ≡ false) xs
+pub absent_from : (d : Dot) (xs : List Item) → stands d xs ≡ false → AllByRecursion (λ y. has_dot d y ≡ false) xs
 absent_from d [] h = tt
 absent_from d (x ∷ xs) h = let o = or_parts (has_dot d x) (stands d xs) h in (o.0, absent_from d xs o.1)
 
@@ -145,7 +145,7 @@ proper_merge ks k x y n hx hy =
               ∙ k.closed y.code x.code (sym (fits_told ks y.part k y.code m) ∙ hy.fits) (sym (fits_told ks x.part k x.code n) ∙ hx.fits);
         }
 
-all_proper : (ks : List ValueKind) (k : ValueKind) (x : Item) (xs : List Item) → slice_get ks x.part ≡ Some k → Proper ks x → All (Proper ks) xs → All (Proper ks) (map (merge_dot k x) xs)
+all_proper : (ks : List ValueKind) (k : ValueKind) (x : Item) (xs : List Item) → slice_get ks x.part ≡ Some k → Proper ks x → AllByRecursion (Proper ks) xs → AllByRecursion (Proper ks) (map (merge_dot k x) xs)
 all_proper ks k x [] n hx h = tt
 all_proper ks k x (y ∷ ys) n hx h = (proper_merge ks k x y n hx h.0, all_proper ks k x ys n hx h.1)
 
@@ -228,5 +228,5 @@ orderly_put ks caps xs p e h = go (put_refusal ks caps xs p e) refl
         let n = first_none (misfit ks p e) (full_if p (crowded caps xs p e.dot)) q in
         put (slice_get ks p) refl n.0 (full_none p (crowded caps xs p e.dot) n.1)
 
-pub all_placed : (ks : List ValueKind) (xs : List Item) → All (Proper ks) xs → All (λ x. x.part < length ks) xs
+pub all_placed : (ks : List ValueKind) (xs : List Item) → AllByRecursion (Proper ks) xs → AllByRecursion (λ x. x.part < length ks) xs
 all_placed ks xs h = All-weaker (Proper ks) (λ x. x.part < length ks) (λ x q. q.placed) xs h

@@ -1,6 +1,6 @@
 -- What a store holds, as a list of items, and what each call does to the list.
 use Rattle.std.specs.Prelude.{◌≡◌, ℕ, Bool, true, false, cond, not, ◌&&◌, ◌||◌, List, [], ◌∷◌, map, length, Some, None, filter, Option, ◌==◌, nat_lt}
-use Rattle.std.specs.List.{AllByRecursion as All, slice_get}
+use Rattle.std.specs.List.{AllByRecursion, slice_get}
 use Rattle.causal.specs.declared.dots.Dot.{Dot}
 use Rattle.causal.specs.declared.places.Place.{Place}
 use Rattle.causal.specs.Dots.{same_dot, dot_less}
@@ -38,7 +38,7 @@ precedes x y = nat_lt x.part y.part || (x.part == y.part && spot_less x.place x.
 -- each stands before all after it
 abbrev pub Ascends : List Item → Type 0
 Ascends [] = Unit {0}
-Ascends (x ∷ xs) = All (λ y. precedes x y ≡ true) xs × Ascends xs
+Ascends (x ∷ xs) = AllByRecursion (λ y. precedes x y ≡ true) xs × Ascends xs
 
 -- the item has this dot
 abbrev pub has_dot : Dot → Item → Bool
@@ -47,7 +47,7 @@ has_dot d x = same_dot x.dot d
 -- no dot stands twice
 abbrev pub Apart : List Item → Type 0
 Apart [] = Unit {0}
-Apart (x ∷ xs) = All (λ y. has_dot x.dot y ≡ false) xs × Apart xs
+Apart (x ∷ xs) = AllByRecursion (λ y. has_dot x.dot y ≡ false) xs × Apart xs
 
 -- some item has the dot
 abbrev pub stands : Dot → List Item → Bool

@@ -1,6 +1,6 @@
 -- What every sound store satisfies.
 use Rattle.std.specs.Prelude.{◌≡◌, ℕ, ◌<◌, ◌≤◌, true, List, length, slice_index}
-use Rattle.std.specs.List.{AllByRecursion as All}
+use Rattle.std.specs.List.{AllByRecursion}
 use Rattle.kinds.specs.Kinds.{ValueKind}
 use Rattle.stores.specs.Items.{Item, Ascends, Apart, count_part}
 use Rattle.stores.specs.Puts.{is_address, fits_part}
@@ -21,7 +21,7 @@ pub record FewParts (ks : List ValueKind) : Type 0 where
 -- a capacity for each part, none too large
 pub record Roomy (ks : List ValueKind) (caps : List ℕ) : Type 0 where
   pub even : length caps ≡ length ks
-  pub small : All (λ n. n ≤ most_entries) caps
+  pub small : AllByRecursion (λ n. n ≤ most_entries) caps
 
 -- an item of a part that is there, at a good place and dot, with a code of the part's kind
 pub record Proper (ks : List ValueKind) (x : Item) : Type 0 where
@@ -33,5 +33,5 @@ pub record Proper (ks : List ValueKind) (x : Item) : Type 0 where
 pub record Orderly (ks : List ValueKind) (caps : List ℕ) (xs : List Item) : Type 0 where
   pub ascends : Ascends xs
   pub apart : Apart xs
-  pub proper : All (Proper ks) xs
+  pub proper : AllByRecursion (Proper ks) xs
   pub within : (p : ℕ) → count_part p xs ≤ slice_index caps p

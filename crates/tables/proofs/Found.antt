@@ -1,6 +1,6 @@
 -- What the searches and shifts over rows come to, on the list of items.
 use Rattle.std.proofs.Common.{◌≡◌, ℕ, zero, suc, ◌<◌, ◌≤◌, Bool, true, false, cond, not, List, [], ◌∷◌, ◌++◌, map, length, get_or, take, drop, set, sym, refl, ap, ◌∙◌, ap₂, inl, inr, arith}
-use Rattle.std.specs.List.{insert, remove, AllByRecursion as All}
+use Rattle.std.specs.List.{insert, remove, AllByRecursion}
 use Rattle.std.proofs.lemmas.Bool.{cases_Bool, cond-true, cond-false, or_left, or_right}
 use Rattle.std.proofs.lemmas.List.{map-append, take-map, drop-map}
 use Rattle.causal.specs.declared.dots.Dot.{Dot}
@@ -31,7 +31,7 @@ seen d (x ∷ xs) h = elim (cases_Bool (has_dot d x)) [
   | inr f ↦ or_right (has_dot d x) (stands d xs) (seen d xs (let e = cond-true (lacks d x) (suc (lead (lacks d) xs)) 0 (ap not f) in omega (arith, e)))
 ]
 
-pub unseen : (d : Dot) (xs : List Item) → length xs ≤ lead (lacks d) xs → All (λ y. has_dot d y ≡ false) xs
+pub unseen : (d : Dot) (xs : List Item) → length xs ≤ lead (lacks d) xs → AllByRecursion (λ y. has_dot d y ≡ false) xs
 unseen d [] h = tt
 unseen d (x ∷ xs) h = elim (cases_Bool (has_dot d x)) [
   | inl t ↦ absurd (let e = cond-false (lacks d x) (suc (lead (lacks d) xs)) 0 (ap not t) in omega (arith, e))

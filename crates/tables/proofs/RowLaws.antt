@@ -1,6 +1,6 @@
 -- What a change of the rows is to the items.
 use Rattle.std.proofs.Common.{◌≡◌, ℕ, zero, suc, ◌+◌, ◌-◌, ◌<◌, ◌≤◌, true, false, List, [], ◌∷◌, map, length, get_or, take, set, sym, refl, ap, ◌∙◌, inl, inr, arith}
-use Rattle.std.specs.List.{insert, remove, AllByRecursion as All}
+use Rattle.std.specs.List.{insert, remove, AllByRecursion}
 use Rattle.std.proofs.lemmas.Bool.{cond-true, cond-false, cases_Bool, both_ways}
 use Rattle.stores.proofs.ItemOrder.{precedes_transitive}
 use Rattle.std.proofs.lemmas.List.{map-set, get_or-map, set-get_or, take-map, length-map, length-take-le}
@@ -62,7 +62,7 @@ module _ {V : Type 0} (coded : V → ℕ) (k : ValueKind) where
   falls row [] h = tt
   falls row (e ∷ es) h = ((λ f. after es h.0 f), falls row es h.1)
     where
-      after : (vs : List (Entry V)) → All (λ y. precedes (item_of coded 0 e) y ≡ true) (items coded vs) → ahead row.place row.dot e ≡ false → All (λ y. ahead row.place row.dot y ≡ false) vs
+      after : (vs : List (Entry V)) → AllByRecursion (λ y. precedes (item_of coded 0 e) y ≡ true) (items coded vs) → ahead row.place row.dot e ≡ false → AllByRecursion (λ y. ahead row.place row.dot y ≡ false) vs
       after [] p f = tt
       after (v ∷ vs) p f = (
         elim (cases_Bool (ahead row.place row.dot v)) [
@@ -79,7 +79,7 @@ module _ {V : Type 0} (coded : V → ℕ) (k : ValueKind) where
     pub found_stands : n < len → stands d (items coded (take len rows)) ≡ true
     found_stands h = seen d (items coded (take len rows)) (omega (arith, used rows len within, sought d (take len rows) n is))
 
-    pub unfound : len ≤ n → All (λ y. has_dot d y ≡ false) (items coded (take len rows))
+    pub unfound : len ≤ n → AllByRecursion (λ y. has_dot d y ≡ false) (items coded (take len rows))
     unfound h = unseen d (items coded (take len rows)) (omega (arith, used rows len within, sought d (take len rows) n is))
 
     pub unfound_stands : len ≤ n → stands d (items coded (take len rows)) ≡ false

@@ -1,7 +1,7 @@
 -- Entries in lent memory: rows, of which the first few are in use.
 use Rattle.std.specs.Prelude.{◌≡◌, ℕ, zero, suc, ◌<◌, ◌≤◌, min, Bool, false, cond, not, List, [], ◌∷◌, map, length, take, drop, refl}
 use Rattle.std.proofs.Common.{arith}
-use Rattle.std.specs.List.{AllByRecursion as All}
+use Rattle.std.specs.List.{AllByRecursion}
 use Rattle.causal.specs.declared.dots.Dot.{Dot}
 use Rattle.causal.specs.declared.places.Place.{Place}
 use Rattle.causal.specs.Dots.{same_dot}
@@ -34,7 +34,7 @@ lead f (x ∷ xs) = cond (f x) (suc (lead f xs)) 0
 -- where one fails the test, so do all after it
 abbrev pub Falls : {X : Type 0} → (X → Bool) → List X → Type 0
 Falls f [] = Unit {0}
-Falls f (x ∷ xs) = (f x ≡ false → All (λ y. f y ≡ false) xs) × Falls f xs
+Falls f (x ∷ xs) = (f x ≡ false → AllByRecursion (λ y. f y ≡ false) xs) × Falls f xs
 
 -- the element at n, changed
 abbrev pub adjust : {X : Type 0} → (X → X) → ℕ → List X → List X

@@ -1,6 +1,6 @@
 use Rattle.std.proofs.Common.{◌≡◌, ℕ, ◌<◌, Bool, true, ◌&&◌, ltb, List, [], ◌∷◌, ◌++◌, map, sym, refl, ap, ◌∙◌, subst, inl, ⊎_elim, arith}
 use Rattle.std.proofs.lemmas.Bool.{and_parts, ltb-true}
-use Rattle.std.specs.List.{AllByRecursion as All}
+use Rattle.std.specs.List.{AllByRecursion}
 use Rattle.causal.specs.Dots.{same_dot, dot_less}
 use Rattle.causal.specs.Places.{same_place, place_less}
 use Rattle.causal.specs.Runs.{in_run, before, hull}
@@ -95,23 +95,23 @@ abbrev all_below : List ℕ → Bool
 all_below [] = true
 all_below (b ∷ bs) = ltb b 256 && all_below bs
 
-below : (bs : List ℕ) → all_below bs ≡ true → All (λ b. b < 256) bs
+below : (bs : List ℕ) → all_below bs ≡ true → AllByRecursion (λ b. b < 256) bs
 below [] e = tt
 below (b ∷ bs) e = let p = and_parts (ltb b 256) (all_below bs) e in (ltb-true b 256 p.0, below bs p.1)
 
-exchange_bytes : All Bytewise exchange
+exchange_bytes : AllByRecursion Bytewise exchange
 unfolding exchange
 exchange_bytes = (below (action 5 0 12 0 160) refl, (tt, (tt, (tt, tt))))
 
-second_bytes : All Bytewise second_only
+second_bytes : AllByRecursion Bytewise second_only
 unfolding second_only
 second_bytes = (below (action 5 0 12 0 160) refl, (below (action 5 0 13 0 160) refl, (tt, tt)))
 
-both_bytes : All Bytewise both_at_once
+both_bytes : AllByRecursion Bytewise both_at_once
 unfolding both_at_once
 both_bytes = (below (action 5 0 12 0 160 ++ action 5 0 13 0 160) refl, (tt, tt))
 
-gap_bytes : All Bytewise past_a_gap
+gap_bytes : AllByRecursion Bytewise past_a_gap
 unfolding past_a_gap
 gap_bytes = (below (action 5 0 12 0 160) refl, (below (action 5 0 13 0 160) refl, (tt, (tt, tt))))
 
@@ -137,7 +137,7 @@ only_one (e ∷ es) a b p q h =
 gap_out : CausalBy site (over_gaps site) → ⊥
 gap_out h = let e = ap (λ (n : Name). n.step) (only_one leapt (name 1 2) (name 1 1) leapt_names leapt_pasts (λ e n. h past_a_gap gap_bytes 2 e n)) in omega arith
 
-out : (b : Behaviour) (ks : List Call) → All Bytewise ks → (m n : ℕ) → last_number (by b ks) ≡ m → last_number (machine ks) ≡ n → FollowsBy site (behaving b site) → m ≡ n
+out : (b : Behaviour) (ks : List Call) → AllByRecursion Bytewise ks → (m n : ℕ) → last_number (by b ks) ≡ m → last_number (machine ks) ≡ n → FollowsBy site (behaving b site) → m ≡ n
 out b ks bytes m n p q h = differ m n (by b ks) (machine ks) p q (h ks bytes)
 
 -- as it should be

@@ -1,5 +1,5 @@
 use Rattle.std.proofs.Common.{◌≡◌, ℕ, ◌+◌, ◌<◌, ◌≤◌, length, get_or, drop, sym, ap, ◌∙◌, subst, arith}
-use Rattle.std.specs.List.{AllByRecursion as All}
+use Rattle.std.specs.List.{AllByRecursion}
 use Rattle.std.proofs.lemmas.List.{at_drop_all}
 use Rattle.contexts.specs.Contexts.{runs_of}
 use Rattle.stores.specs.Items.{count_part}
@@ -26,7 +26,7 @@ loop-i-preserved g c s =
     let v = c.loop-i.invariant s in
     let Room : Type 0 = (p : ℕ) → count_part p (enter_all ks rs (S.entries old) ys) ≤ get_or caps p 0 in
     let Q : g.row.S.Denot → Type 0 = λ t. (S.sound t) × (S.capacities t ≡ caps)
-    × (G.sound c.args.group.now → All (Proper ks) ys → Room → enter_all ks rs (S.entries t) (drop (i + 1) ys) ≡ enter_all ks rs (S.entries old) ys) in
+    × (G.sound c.args.group.now → AllByRecursion (Proper ks) ys → Room → enter_all ks rs (S.entries t) (drop (i + 1) ys) ≡ enter_all ks rs (S.entries old) ys) in
     elim c.match-entry_at.branch [
       | in-Some+then-not-is_shut w ↦ subst Q (sym w.store-is) (
         w.put.ensures.stays v.0,

@@ -1,7 +1,7 @@
 use Rattle.std.proofs.Common.{◌^◌, ◌<◌, length, Ok, refl, ap, ◌∙◌, arith}
 use Rattle.reading.specs.Reading.{first_group}
 use Rattle.sources.proofs.ReadGroups.{first_answers}
-use Rattle.sources.proofs.reading.journal_group.Goals as goal
+use Rattle.sources.proofs.read_groups.journal_group.Goals as goal
 
 pub returns : goal.returns
 returns g c =

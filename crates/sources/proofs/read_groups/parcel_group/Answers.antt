@@ -1,7 +1,7 @@
 use Rattle.std.proofs.Common.{◌^◌, ◌<◌, length, Ok, refl, ap, ◌∙◌, arith}
 use Rattle.reading.specs.Reading.{parcel_group}
 use Rattle.sources.proofs.ReadGroups.{parcel_answers}
-use Rattle.sources.proofs.reading.parcel_group.Goals as goal
+use Rattle.sources.proofs.read_groups.parcel_group.Goals as goal
 
 pub returns : goal.returns
 returns g c =

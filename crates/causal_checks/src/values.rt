@@ -1,6 +1,9 @@
 use causal::dots::{Dot, compare_dots};
 use causal::places::{Place, compare_places};
 use kinds::kind::Kind;
+use kinds::limit::Limit;
+use kinds::lines::Lines;
+use kinds::mark::Mark;
 use std::cmp::Ordering;
 
 fn place(first: u16, second: u16, third: u16, fourth: u16) -> Place {
@@ -136,12 +139,12 @@ fn joined<K: Kind>(a: u64, b: u64) -> Option<u64> {
 
 #[test]
 fn joins(rt: HostRuntime) {
-    assert_eq!(rt; joined::<kinds::limit::Limit>(160, 125), Some(125));
-    assert_eq!(rt; joined::<kinds::limit::Limit>(0, 4000), Some(0));
-    assert_eq!(rt; joined::<kinds::limit::Limit>(4001, 0), None);
-    assert_eq!(rt; joined::<kinds::lines::Lines>(1, 4), Some(5));
-    assert_eq!(rt; joined::<kinds::lines::Lines>(7, 2), Some(7));
-    assert_eq!(rt; joined::<kinds::lines::Lines>(0, 8), None);
-    assert_eq!(rt; joined::<kinds::mark::Mark>(0, 0), Some(0));
-    assert_eq!(rt; joined::<kinds::mark::Mark>(0, 1), None);
+    assert_eq!(rt; joined::<Limit>(160, 125), Some(125));
+    assert_eq!(rt; joined::<Limit>(0, 4000), Some(0));
+    assert_eq!(rt; joined::<Limit>(4001, 0), None);
+    assert_eq!(rt; joined::<Lines>(1, 4), Some(5));
+    assert_eq!(rt; joined::<Lines>(7, 2), Some(7));
+    assert_eq!(rt; joined::<Lines>(0, 8), None);
+    assert_eq!(rt; joined::<Mark>(0, 0), Some(0));
+    assert_eq!(rt; joined::<Mark>(0, 1), None);
 }

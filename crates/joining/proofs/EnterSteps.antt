@@ -114,7 +114,7 @@ module _ (ks : List ValueKind) (rs : List Run) where
   enters_apart xs [] h = h
   enters_apart xs (y ∷ ys) h = enters_apart (enter ks rs y xs) ys (cond_both (shut rs y.dot xs) xs (put_of (slice_get ks y.part) y xs) Apart (λ _. h) (λ _. put_of_apart (slice_get ks y.part) y xs h))
 
-  -- look_ups
+  -- look-ups
 
   -- what stands at a dot once an item with it has entered, if there is one
   abbrev came : Bool → Option Item → Option Item → Option Item

@@ -11,6 +11,9 @@ use causal::places::Place;
 use contexts::context::Context;
 use journal::join_journal;
 use kinds::kind::Kind;
+use kinds::limit::Limit;
+use kinds::lines::Lines;
+use kinds::mark::Mark;
 use listing::list_entries;
 use site_books::site_book::new_site_book;
 use std::alloc::Global;
@@ -30,9 +33,9 @@ fn main(rt: HostRuntime) -> io::Result<()> {
     if length > MOST_BYTES {
         return println!(rt; "refused 12 65520 0");
     }
-    let mut limits = rows::<kinds::limit::Limit>(rt.alloc())?;
-    let mut lines = rows::<kinds::lines::Lines>(rt.alloc())?;
-    let mut marks = rows::<kinds::mark::Mark>(rt.alloc())?;
+    let mut limits = rows::<Limit>(rt.alloc())?;
+    let mut lines = rows::<Lines>(rt.alloc())?;
+    let mut marks = rows::<Mark>(rt.alloc())?;
     let mut book = new_site_book(&mut limits, &mut lines, &mut marks);
     let mut context = Context::empty();
     match join_journal(&mut book, &mut context, &memory[0..length]) {

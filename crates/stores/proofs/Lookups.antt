@@ -1,4 +1,4 @@
--- What look_ups find after a put and a strike; lists told by their look_ups; counts that add up.
+-- What look-ups find after a put and a strike; lists told by their look-ups; counts that add up.
 use Rattle.std.proofs.Common.{◌≡◌, ℕ, zero, suc, ◌+◌, ◌<◌, Bool, true, false, cond, not, eqb, ltb, ◌⊎◌, List, [], ◌∷◌, map, length, Some, None, Option, sym, refl, ap, ◌∙◌, subst, ap₂, inl, inr, arith}
 use Rattle.std.specs.List.{slice_get, AllByRecursion}
 use Rattle.std.specs.Option.{option_map}
@@ -139,7 +139,7 @@ find_strike e (x ∷ xs) d = elim (cases_Bool (has_dot e x)) [
       ∙ under_other (has_dot d x) (same_dot e d) x (find d xs) (λ t u. both_ways (has_dot e x) f (ap₂ same_dot (dot_equal x.dot d t) (dot_equal e d u) ∙ dot_itself d))
 ]
 
--- lists told by their look_ups
+-- lists told by their look-ups
 
 find_rest : (x : Item) (xs : List Item) (d : Dot) → AllByRecursion (λ y. has_dot x.dot y ≡ false) xs → find d xs ≡ cond (has_dot d x) None (find d (x ∷ xs))
 find_rest x xs d a = elim (cases_Bool (has_dot d x)) [

@@ -11,7 +11,7 @@ pub fn strikes_remove_one_dot()
     ensures { StrikesRemoveOneDot }
 {}
 
-// Two stores in order with equal look_ups hold one list.
+// Two stores in order with equal look-ups hold one list.
 pub fn lookups_tell_lists()
     ensures { LookupsTellLists }
 {}

@@ -1,6 +1,9 @@
 // The three-part book.
 use crate::steps::{Step, used_row, walk};
 use kinds::kind::Kind;
+use kinds::limit::Limit;
+use kinds::lines::Lines;
+use kinds::mark::Mark;
 use site_books::site_book::new_site_book;
 use std::test::Fail;
 use stores::walks::copy_part;
@@ -8,13 +11,13 @@ use tables::table::Table;
 
 // How many of these steps go as they should, in a book with room for two limits, one set of lines and no mark.
 fn walk_book(steps: &[Step]) -> usize {
-    let Some(limit) = <kinds::limit::Limit as Kind>::read(7) else {
+    let Some(limit) = Limit::read(7) else {
         return 0;
     };
-    let Some(lines) = <kinds::lines::Lines as Kind>::read(7) else {
+    let Some(lines) = Lines::read(7) else {
         return 0;
     };
-    let Some(mark) = <kinds::mark::Mark as Kind>::read(0) else {
+    let Some(mark) = Mark::read(0) else {
         return 0;
     };
     let mut limits = [used_row(limit); 2];
@@ -107,15 +110,15 @@ fn a_dot_of_another_part_stays(rt: HostRuntime) {
 
 #[test]
 fn a_part_is_copied_into_a_table(rt: HostRuntime) -> Result<(), Fail> {
-    let Some(limit) = <kinds::limit::Limit as Kind>::read(7) else {
+    let Some(limit) = Limit::read(7) else {
         assert!(rt; false);
         return Ok(());
     };
-    let Some(lines) = <kinds::lines::Lines as Kind>::read(7) else {
+    let Some(lines) = Lines::read(7) else {
         assert!(rt; false);
         return Ok(());
     };
-    let Some(mark) = <kinds::mark::Mark as Kind>::read(0) else {
+    let Some(mark) = Mark::read(0) else {
         assert!(rt; false);
         return Ok(());
     };

@@ -1,6 +1,7 @@
 // Pairs of pairs.
 use crate::steps::{Step, used_row, walk};
 use kinds::kind::Kind;
+use kinds::limit::Limit;
 use kinds::mark::Mark;
 use pairs::pair::Pair;
 use std::test::Fail;
@@ -72,7 +73,7 @@ fn parts_past_the_eighth_are_not_there(rt: HostRuntime) -> Result<(), Fail> {
 
 #[test]
 fn a_pair_begins_empty(rt: HostRuntime) -> Result<(), Fail> {
-    let Some(limit) = <kinds::limit::Limit as Kind>::read(7) else {
+    let Some(limit) = Limit::read(7) else {
         assert!(rt; false);
         return Ok(());
     };

@@ -3,6 +3,9 @@ use crate::steps::{Step, used_row, walk};
 use causal::dots::Dot;
 use causal::places::Place;
 use kinds::kind::Kind;
+use kinds::limit::Limit;
+use kinds::lines::Lines;
+use kinds::mark::Mark;
 use std::test::Fail;
 use stores::entries::Entry;
 use tables::table::Table;
@@ -15,7 +18,7 @@ fn walk_table<K: Kind>(rows: &mut [Entry<K>], steps: &[Step]) -> usize {
 
 #[test]
 fn a_fresh_table_is_empty(rt: HostRuntime) -> Result<(), Fail> {
-    let Some(limit) = <kinds::limit::Limit as Kind>::read(7) else {
+    let Some(limit) = Limit::read(7) else {
         assert!(rt; false);
         return Ok(());
     };
@@ -35,7 +38,7 @@ fn a_fresh_table_is_empty(rt: HostRuntime) -> Result<(), Fail> {
 
 #[test]
 fn limits_stand_in_order_and_the_smaller_is_kept(rt: HostRuntime) -> Result<(), Fail> {
-    let Some(limit) = <kinds::limit::Limit as Kind>::read(7) else {
+    let Some(limit) = Limit::read(7) else {
         assert!(rt; false);
         return Ok(());
     };
@@ -62,7 +65,7 @@ fn limits_stand_in_order_and_the_smaller_is_kept(rt: HostRuntime) -> Result<(), 
 
 #[test]
 fn equal_places_go_by_dots(rt: HostRuntime) -> Result<(), Fail> {
-    let Some(limit) = <kinds::limit::Limit as Kind>::read(7) else {
+    let Some(limit) = Limit::read(7) else {
         assert!(rt; false);
         return Ok(());
     };
@@ -100,7 +103,7 @@ fn equal_places_go_by_dots(rt: HostRuntime) -> Result<(), Fail> {
 
 #[test]
 fn addresses_are_judged_before_codes(rt: HostRuntime) -> Result<(), Fail> {
-    let Some(limit) = <kinds::limit::Limit as Kind>::read(7) else {
+    let Some(limit) = Limit::read(7) else {
         assert!(rt; false);
         return Ok(());
     };
@@ -169,7 +172,7 @@ fn addresses_are_judged_before_codes(rt: HostRuntime) -> Result<(), Fail> {
 
 #[test]
 fn a_full_table_still_joins(rt: HostRuntime) -> Result<(), Fail> {
-    let Some(limit) = <kinds::limit::Limit as Kind>::read(7) else {
+    let Some(limit) = Limit::read(7) else {
         assert!(rt; false);
         return Ok(());
     };
@@ -193,7 +196,7 @@ fn a_full_table_still_joins(rt: HostRuntime) -> Result<(), Fail> {
 
 #[test]
 fn a_table_of_no_rows_takes_nothing(rt: HostRuntime) -> Result<(), Fail> {
-    let Some(limit) = <kinds::limit::Limit as Kind>::read(7) else {
+    let Some(limit) = Limit::read(7) else {
         assert!(rt; false);
         return Ok(());
     };
@@ -210,7 +213,7 @@ fn a_table_of_no_rows_takes_nothing(rt: HostRuntime) -> Result<(), Fail> {
 
 #[test]
 fn strikes_take_one_dot_out(rt: HostRuntime) -> Result<(), Fail> {
-    let Some(limit) = <kinds::limit::Limit as Kind>::read(7) else {
+    let Some(limit) = Limit::read(7) else {
         assert!(rt; false);
         return Ok(());
     };
@@ -236,7 +239,7 @@ fn strikes_take_one_dot_out(rt: HostRuntime) -> Result<(), Fail> {
 
 #[test]
 fn rows_past_the_entries_stay(rt: HostRuntime) -> Result<(), Fail> {
-    let Some(limit) = <kinds::limit::Limit as Kind>::read(7) else {
+    let Some(limit) = Limit::read(7) else {
         assert!(rt; false);
         return Ok(());
     };
@@ -254,7 +257,7 @@ fn rows_past_the_entries_stay(rt: HostRuntime) -> Result<(), Fail> {
 
 #[test]
 fn lines_join_to_all_that_either_has(rt: HostRuntime) -> Result<(), Fail> {
-    let Some(lines) = <kinds::lines::Lines as Kind>::read(7) else {
+    let Some(lines) = Lines::read(7) else {
         assert!(rt; false);
         return Ok(());
     };
@@ -274,7 +277,7 @@ fn lines_join_to_all_that_either_has(rt: HostRuntime) -> Result<(), Fail> {
 
 #[test]
 fn marks_have_the_code_0_alone(rt: HostRuntime) -> Result<(), Fail> {
-    let Some(mark) = <kinds::mark::Mark as Kind>::read(0) else {
+    let Some(mark) = Mark::read(0) else {
         assert!(rt; false);
         return Ok(());
     };
@@ -292,7 +295,7 @@ fn marks_have_the_code_0_alone(rt: HostRuntime) -> Result<(), Fail> {
 
 #[test]
 fn walks_count_a_table(rt: HostRuntime) -> Result<(), Fail> {
-    let Some(limit) = <kinds::limit::Limit as Kind>::read(7) else {
+    let Some(limit) = Limit::read(7) else {
         assert!(rt; false);
         return Ok(());
     };

@@ -18,7 +18,7 @@ pub trait Shelf {
     // What holds of every shelf that a constructor and the calls below made.
     ghost sound: { Self → Type 0 };
 
-    // A sound shelf holds no more than its numbers say, and whole records. (A member and not a law: a type with a lifetime cannot keep a law yet.)
+    // A sound shelf holds no more than its numbers say, and whole records.
     ghost within: { (s : Self) → sound s → Within (sizes s) (parcels s) };
 
     // The most parcels.

@@ -1,4 +1,5 @@
 use Rattle.std.proofs.Common.{◌≡◌, ◌+◌, ◌<◌, ◌≤◌, Bool, true, false, not, ◌&&◌, ◌||◌, eqb, ltb, leb, List, [], ◌∷◌, sym, refl, ap, ◌∙◌, ap₂, ⊎_elim, arith}
+use Rattle.std.proofs.Math.Bool.{or_comm, or_assoc, or_self}
 use Rattle.std.proofs.lemmas.Bool.Decides.{nat_tests}
 use Rattle.std.proofs.lemmas.Bool.{or_cases, or_left, false≢true, cases_lt}
 use Rattle.causal.specs.declared.dots.Dot.{Dot}
@@ -26,18 +27,6 @@ one_replica r s e f = grind (arith, nat_tests)
 pub sound_hull : (r s : Run) → Sound r → Sound s → Sound (hull r s)
 unfolding in_run before hull
 sound_hull r s hr hs = omega arith
-
-or_swap : (a b c : Bool) → (a || (b || c)) ≡ (b || (a || c))
-or_swap a b c = grind arith
-
-or_comm : (a b : Bool) → (a || b) ≡ (b || a)
-or_comm a b = grind arith
-
-or_idem : (a : Bool) → (a || a) ≡ a
-or_idem a = grind arith
-
-or_assoc : (a b c : Bool) → ((a || b) || c) ≡ (a || (b || c))
-or_assoc a b c = grind arith
 
 pub has_insert : (r : Run) (rs : List Run) (d : Dot) → Sound r → Canonical rs → has (insert r rs) d ≡ (in_run r d || has rs d)
 has_insert r [] d hr hc = refl
@@ -193,7 +182,7 @@ union_assoc xs ys zs hx hy hz =
     (or_assoc (has xs d) (has ys d) (has zs d)))
 
 pub union_idem : (xs : List Run) → Canonical xs → union xs xs ≡ xs
-union_idem xs hx = ext (union xs xs) xs (union_canonical xs xs hx hx) hx (λ d. has_union xs xs d hx hx ∙ or_idem (has xs d))
+union_idem xs hx = ext (union xs xs) xs (union_canonical xs xs hx hx) hx (λ d. has_union xs xs d hx hx ∙ or_self (has xs d))
 
 pub union_stays_canonical : (xs ys : List Run) → canonical xs ≡ true → canonical ys ≡ true → canonical (union xs ys) ≡ true
 union_stays_canonical xs ys hx hy = canonical_test (union xs ys) (union_canonical xs ys (canonical_from xs hx) (canonical_from ys hy))

@@ -1,10 +1,12 @@
 // Places: paths of up to four keys, as feeder 12, socket 1.
 ghost use Rattle.std.specs.Prelude.{◌≡◌};
-ghost use Rattle.causal.specs.Places.{depth_of, is_place, is_under, place_order};
+ghost use Rattle.causal.specs.Places.{keys, depth_of, is_place, is_under, place_order};
 
 use std::cmp::Ordering;
 
-#[derive(Clone, Copy)]
+// In order by the first key that differs.
+// Stays as it is: four fields and not an array, since callers name the keys one by one (feeder, socket), and so do the clauses of the crates above.
+#[derive(Clone, Copy, Debug, PartialEq, Eq, PartialOrd, Ord, Default)]
 pub struct Place {
     pub first: u16,
     pub second: u16,
@@ -13,31 +15,24 @@ pub struct Place {
 }
 
 impl Place {
+    fn keys(self) -> [u16; 4]
+        ensures { result ≡ keys self }
+    {
+        [self.first, self.second, self.third, self.fourth]
+    }
+
     // How many keys stand before the first 0.
     pub fn depth(self) -> usize
         ensures { result ≡ depth_of self }
     {
-        if self.first == 0 {
-            0
-        } else if self.second == 0 {
-            1
-        } else if self.third == 0 {
-            2
-        } else if self.fourth == 0 {
-            3
-        } else {
-            4
-        }
+        self.keys().iter().take_while(|&&key| key != 0).count()
     }
 
     // Whether after a key 0 only 0 follows.
     pub fn is_well_formed(self) -> bool
         ensures { result ≡ is_place self }
     {
-        let fourth_ok = self.third != 0 || self.fourth == 0;
-        let third_ok = self.second != 0 || self.third == 0;
-        let second_ok = self.first != 0 || self.second == 0;
-        second_ok && third_ok && fourth_ok
+        self.keys()[self.depth()..].iter().all(|&key| key == 0)
     }
 
     // Whether the first keys are those of `other`, to its depth.
@@ -45,31 +40,14 @@ impl Place {
         ensures { result ≡ is_under self other }
     {
         let depth = other.depth();
-        if depth >= 1 && self.first != other.first {
-            return false;
-        }
-        if depth >= 2 && self.second != other.second {
-            return false;
-        }
-        if depth >= 3 && self.third != other.third {
-            return false;
-        }
-        depth < 4 || self.fourth == other.fourth
+        self.keys()[..depth] == other.keys()[..depth]
     }
 }
 
-// The first key that differs decides. Every other order or equality of places asks here.
+// States which order of places the derived one is, since a derive has no clause.
+#[tactic(auto, unfolding(crate::specs::Places::place_less))]
 pub fn compare_places(p: Place, q: Place) -> Ordering
     ensures { result ≡ place_order p q }
 {
-    if p.first != q.first {
-        return p.first.cmp(&q.first);
-    }
-    if p.second != q.second {
-        return p.second.cmp(&q.second);
-    }
-    if p.third != q.third {
-        return p.third.cmp(&q.third);
-    }
-    p.fourth.cmp(&q.fourth)
+    p.cmp(&q)
 }

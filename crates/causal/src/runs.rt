@@ -4,7 +4,7 @@ ghost use Rattle.causal.specs.Runs.{is_run, in_run, before};
 
 use crate::dots::{Counter, Dot, LAST_COUNTER, is_replica_number};
 
-#[derive(Clone, Copy)]
+#[derive(Clone, Copy, Debug, PartialEq, Eq)]
 pub struct Run {
     pub replica: u8,
     pub first: Counter,
@@ -28,19 +28,19 @@ impl Run {
             && self.last <= LAST_COUNTER
     }
 
+    #[tactic(auto, unfolding(crate::specs::Runs::in_run))]
     pub fn contains(self, dot: Dot) -> bool
         ensures { result ≡ in_run self dot }
     {
-        self.replica == dot.replica && self.first <= dot.counter && dot.counter <= self.last
+        self.replica == dot.replica && (self.first..=self.last).contains(&dot.counter)
     }
 
     // Whether this run ends before the other begins, with a dot between them that is in neither.
+    #[tactic(auto, unfolding(crate::specs::Runs::before))]
     pub fn ends_before(self, other: Run) -> bool
         ensures { result ≡ before self other }
     {
-        if self.replica != other.replica {
-            return self.replica < other.replica;
-        }
-        self.last < other.first && other.first - self.last > 1
+        self.replica < other.replica
+            || (self.replica == other.replica && other.first.saturating_sub(self.last) > 1)
     }
 }

@@ -1,4 +1,4 @@
-// Tests of the crate causal. What is expected was worked out by hand from the rules in docs/DOTS.md.
+// Tests of the crates causal, contexts and kinds. What is expected was worked out by hand from the rules in docs/DOTS.md.
 #![tactic(auto)]
 
 #[cfg(test)]

@@ -15,6 +15,10 @@ fn place(first: u16, second: u16, third: u16, fourth: u16) -> Place {
     }
 }
 
+fn dot(replica: u8, counter: u16) -> Dot {
+    Dot { replica, counter }
+}
+
 #[test]
 fn places(rt: HostRuntime) {
     assert_eq!(rt; place(0, 0, 0, 0).depth(), 0);
@@ -50,84 +54,18 @@ fn orders(rt: HostRuntime) {
         compare_places(place(1, 2, 3, 5), place(1, 2, 3, 4)),
         Ordering::Greater
     );
-    assert_eq!(rt;
-        compare_dots(
-            Dot {
-                replica: 1,
-                counter: 65535,
-            },
-            Dot {
-                replica: 2,
-                counter: 1,
-            },
-        ),
-        Ordering::Less
-    );
-    assert_eq!(rt;
-        compare_dots(
-            Dot {
-                replica: 2,
-                counter: 2,
-            },
-            Dot {
-                replica: 2,
-                counter: 1,
-            },
-        ),
-        Ordering::Greater
-    );
-    assert_eq!(rt;
-        compare_dots(
-            Dot {
-                replica: 2,
-                counter: 2,
-            },
-            Dot {
-                replica: 2,
-                counter: 2,
-            },
-        ),
-        Ordering::Equal
-    );
+    assert_eq!(rt; compare_dots(dot(1, 65535), dot(2, 1)), Ordering::Less);
+    assert_eq!(rt; compare_dots(dot(2, 2), dot(2, 1)), Ordering::Greater);
+    assert_eq!(rt; compare_dots(dot(2, 2), dot(2, 2)), Ordering::Equal);
 }
 
 #[test]
 fn dots(rt: HostRuntime) {
-    assert!(rt;
-        Dot {
-            replica: 1,
-            counter: 1,
-        }
-        .is_well_formed()
-    );
-    assert!(rt;
-        Dot {
-            replica: 16,
-            counter: 65535,
-        }
-        .is_well_formed()
-    );
-    assert!(rt;
-        !Dot {
-            replica: 0,
-            counter: 1,
-        }
-        .is_well_formed()
-    );
-    assert!(rt;
-        !Dot {
-            replica: 17,
-            counter: 1,
-        }
-        .is_well_formed()
-    );
-    assert!(rt;
-        !Dot {
-            replica: 1,
-            counter: 0,
-        }
-        .is_well_formed()
-    );
+    assert!(rt; dot(1, 1).is_well_formed());
+    assert!(rt; dot(16, 65535).is_well_formed());
+    assert!(rt; !dot(0, 1).is_well_formed());
+    assert!(rt; !dot(17, 1).is_well_formed());
+    assert!(rt; !dot(1, 0).is_well_formed());
 }
 
 // The code of the join of two codes; none where one does not fit.

@@ -1,2 +1,1 @@
-pub mod RunWalks
 pub mod Merges

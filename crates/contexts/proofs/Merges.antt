@@ -1,13 +1,14 @@
 -- A merge of two canonical lists gives their union.
-use Rattle.std.proofs.Common.{◌≡◌, ℕ, ◌+◌, ◌-◌, ◌<◌, ◌≤◌, min, max, Bool, true, false, cond, ◌||◌, ◌⊎◌, List, [], ◌∷◌, ◌++◌, length, get_or, take, drop, set, sym, refl, ap, ◌∙◌, subst, ⊎_elim, arith}
+use Rattle.std.proofs.Common.{◌≡◌, ℕ, suc, ◌+◌, ◌-◌, ◌<◌, ◌≤◌, min, max, Bool, true, false, cond, ◌||◌, List, [], ◌∷◌, ◌++◌, length, get_or, take, set, sym, refl, ap, ◌∙◌, subst, arith}
 use Rattle.std.specs.List.{AllByRecursion}
 use Rattle.std.proofs.lemmas.Bool.Decides.{nat_tests}
-use Rattle.std.proofs.lemmas.List.{at_drop_more, at_drop_all, take_more, take_more_set, append_assoc}
-use Rattle.std.proofs.lemmas.Bool.{cases_lt, false≢true}
+use Rattle.std.proofs.lemmas.List.{take_more, take_more_set, append_assoc}
+use Rattle.std.proofs.lemmas.Bool.{cond_both}
 use Rattle.causal.specs.declared.dots.Dot.{Dot}
 use Rattle.causal.specs.declared.runs.Run.{Run}
 use Rattle.causal.specs.Runs.{in_run, has, before, hull, insert, union, canonical, run}
-use Rattle.contexts.specs.Merging.{starts_by, left_next, stretched, extended}
+use Rattle.contexts.specs.Merging.{starts_by, left_next, stretched, extended, Takes}
+use Rattle.std.specs.Bool.{MatchBool}
 use Rattle.causal.proofs.RunFacts.{Sound, Ahead, Canonical, canonical_from}
 use Rattle.causal.proofs.RunSets.{has_insert, insert_canonical, union_canonical, has_union, ext}
 
@@ -26,10 +27,6 @@ before_starts r s hr e = grind (arith, nat_tests)
 before_later : (q r s : Run) → before q r ≡ true → starts_by r s ≡ true → before q s ≡ true
 unfolding starts_by before
 before_later q r s e f = grind (arith, nat_tests)
-
-starts_self : (r : Run) → starts_by r r ≡ true
-unfolding starts_by
-starts_self r = grind (arith, nat_tests)
 
 starts_stretched : (r s w : Run) → starts_by r w ≡ true → starts_by (stretched r s) w ≡ true
 unfolding starts_by
@@ -95,8 +92,8 @@ all_none : (ls : List Run) → Due [] ls
 all_none [] = tt
 all_none (l ∷ ls) = tt
 
-pub merging_starts : (xs ys : List Run) → Canonical xs → Canonical ys → Merging [] xs ys xs ys
-merging_starts xs ys hx hy = record { done = tt; left = hx; right = hy; due_left = all_none xs; due_right = all_none ys; members = λ d. refl }
+pub merging_starts : (xs ys : List Run) → canonical xs ≡ true → canonical ys ≡ true → Merging [] xs ys xs ys
+merging_starts xs ys px py = record { done = tt; left = canonical_from xs px; right = canonical_from ys py; due_left = all_none xs; due_right = all_none ys; members = λ d. refl }
 
 or_swap : (a b c : Bool) → (a || (b || c)) ≡ (a || (c || b))
 or_swap a b c = grind arith
@@ -132,10 +129,12 @@ merging_left zs l ls rs xs ys m f =
 or_none : (a : Bool) → a ≡ (a || (false || false))
 or_none a = grind arith
 
-pub merging_ends : (zs xs ys : List Run) → Canonical xs → Canonical ys → Merging zs [] [] xs ys → zs ≡ union xs ys
-merging_ends zs xs ys hx hy m =
-    ext zs (union xs ys) m.done (union_canonical xs ys hx hy)
-    (λ d. or_none (has zs d) ∙ m.members d ∙ sym (has_union xs ys d hx hy))
+pub merging_ends : (zs left right xs ys : List Run) → canonical xs ≡ true → canonical ys ≡ true → (left ≡ []) × (right ≡ []) → Merging zs left right xs ys → zs ≡ union xs ys
+merging_ends zs left right xs ys px py e m =
+    let hx = canonical_from xs px in
+    let hy = canonical_from ys py in
+    let n : Merging zs [] [] xs ys = subst (λ rs. Merging zs [] rs xs ys) e.1 (subst (λ ls. Merging zs ls right xs ys) e.0 m) in
+    ext zs (union xs ys) n.done (union_canonical xs ys hx hy) (λ d. or_none (has zs d) ∙ n.members d ∙ sym (has_union xs ys d hx hy))
 
 -- one more run after a list that ends in r
 pub extended_after : (rs : List Run) (r s : Run) → extended (rs ++ (r ∷ [])) s ≡ rs ++ cond (before r s) (r ∷ s ∷ []) (stretched r s ∷ [])
@@ -143,7 +142,7 @@ extended_after [] r s = refl
 extended_after (q ∷ []) r s = refl
 extended_after (q ∷ p ∷ rs) r s = ap (λ xs. q ∷ xs) (extended_after (p ∷ rs) r s)
 
--- the steps of a merge that counts how far it has come, at i in xs and at j in ys
+-- the steps of a merge
 
 left_first : (l : Run) (rs : List Run) (ls : List Run) → left_next (l ∷ ls) rs ≡ true → First l rs
 left_first l [] ls e = tt
@@ -157,51 +156,31 @@ right_first : (r : Run) (rs ls : List Run) → left_next ls (r ∷ rs) ≡ false
 right_first r rs [] e = tt
 right_first r rs (l ∷ ls) e = starts_other l r e
 
-left_within : (xs rs : List Run) (i : ℕ) → left_next (drop i xs) rs ≡ true → i < length xs
-left_within xs rs i e =
-    ⊎_elim (λ l. l)
-    (λ l. absurd (false≢true (sym (at_drop_all (λ ls. left_next ls rs) xs i l) ∙ e)))
-    (cases_lt i (length xs))
+pub merging_next : (zs left right : List Run) (r : Run) (ls rs xs ys : List Run) → Takes left right r ls rs → Merging zs left right xs ys → Merging (extended zs r) ls rs xs ys
+merging_next zs left right r ls rs xs ys t m = go (left_next left right) refl t
+  where
+    go : (b : Bool) → left_next left right ≡ b → MatchBool b ((left ≡ r ∷ ls) × (right ≡ rs)) ((left ≡ ls) × (right ≡ r ∷ rs)) → Merging (extended zs r) ls rs xs ys
+    go true e p =
+        let n : Merging zs (r ∷ ls) rs xs ys = rw (← p.0, ← p.1) m in
+        let f : left_next (r ∷ ls) rs ≡ true = rw (← p.0, ← p.1) e in
+        merging_left zs r ls rs xs ys n (left_first r rs ls f)
+    go false e p =
+        let n : Merging zs ls (r ∷ rs) xs ys = rw (← p.0, ← p.1) m in
+        let f : left_next ls (r ∷ rs) ≡ false = rw (← p.0, ← p.1) e in
+        merging_swap (extended zs r) rs ls xs ys (merging_left zs r rs ls xs ys (merging_swap zs ls (r ∷ rs) xs ys n) (right_first r rs ls f))
 
-pub index_left : (xs ys : List Run) (i j : ℕ) → true ≡ left_next (drop i xs) (drop j ys) → i < length xs
-index_left xs ys i j e = left_within xs (drop j ys) i (sym e)
+-- one run fewer is left
+pub length-taken : (left right : List Run) (r : Run) (ls rs : List Run) → Takes left right r ls rs → length left + length right ≡ suc (length ls + length rs)
+length-taken left right r ls rs t = go (left_next left right) t
+  where
+    go : (b : Bool) → MatchBool b ((left ≡ r ∷ ls) × (right ≡ rs)) ((left ≡ ls) × (right ≡ r ∷ rs)) → length left + length right ≡ suc (length ls + length rs)
+    go true p = omega (arith, ap length p.0, ap length p.1)
+    go false p = omega (arith, ap length p.0, ap length p.1)
 
--- a list that is left, with one that is not
-left_over : (xs : List Run) (i : ℕ) (rs : List Run) → i < length xs → rs ≡ [] → left_next (drop i xs) rs ≡ true
-left_over xs i rs l e = ap (left_next (drop i xs)) e ∙ at_drop_more (λ ls. left_next ls []) xs i (run 0 0 0) l
-
-pub index_right : (xs ys : List Run) (i j : ℕ) → false ≡ left_next (drop i xs) (drop j ys) → (i < length xs) ⊎ (j < length ys) → j < length ys
-index_right xs ys i j e h =
-    ⊎_elim (λ l. l)
-    (λ l. ⊎_elim (λ k. absurd (false≢true (e ∙ left_over xs i (drop j ys) k (at_drop_all (λ rs. rs) ys j l)))) (λ k. k) h)
-    (cases_lt j (length ys))
-
-pub step_left : (zs xs ys : List Run) (i j : ℕ) → Merging zs (drop i xs) (drop j ys) xs ys → true ≡ left_next (drop i xs) (drop j ys)
-    → Merging (extended zs (get_or xs i (run 0 0 0))) (drop (i + 1) xs) (drop j ys) xs ys
-step_left zs xs ys i j m e =
-    let x = get_or xs i (run 0 0 0) in
-    let l = index_left xs ys i j e in
-    let s : drop i xs ≡ x ∷ drop (i + 1) xs = at_drop_more (λ ls. ls) xs i (run 0 0 0) l in
-    let m' : Merging zs (x ∷ drop (i + 1) xs) (drop j ys) xs ys = subst (λ ls. Merging zs ls (drop j ys) xs ys) s m in
-    merging_left zs x (drop (i + 1) xs) (drop j ys) xs ys m' (left_first x (drop j ys) (drop (i + 1) xs) (sym (e ∙ ap (λ ls. left_next ls (drop j ys)) s)))
-
-pub step_right : (zs xs ys : List Run) (i j : ℕ) → Merging zs (drop i xs) (drop j ys) xs ys → false ≡ left_next (drop i xs) (drop j ys) → j < length ys
-    → Merging (extended zs (get_or ys j (run 0 0 0))) (drop i xs) (drop (j + 1) ys) xs ys
-step_right zs xs ys i j m e l =
-    let y = get_or ys j (run 0 0 0) in
-    let s : drop j ys ≡ y ∷ drop (j + 1) ys = at_drop_more (λ rs. rs) ys j (run 0 0 0) l in
-    let m' : Merging zs (y ∷ drop (j + 1) ys) (drop i xs) xs ys = subst (λ rs. Merging zs rs (drop i xs) xs ys) s (merging_swap zs (drop i xs) (drop j ys) xs ys m) in
-    let f = right_first y (drop (j + 1) ys) (drop i xs) (sym (e ∙ ap (left_next (drop i xs)) s)) in
-    merging_swap (extended zs y) (drop (j + 1) ys) (drop i xs) xs ys (merging_left zs y (drop (j + 1) ys) (drop i xs) xs ys m' f)
-
-pub ends_at : (zs xs ys : List Run) (i j : ℕ) → canonical xs ≡ true → canonical ys ≡ true → length xs ≤ i → length ys ≤ j → Merging zs (drop i xs) (drop j ys) xs ys → zs ≡ union xs ys
-ends_at zs xs ys i j hx hy p q m =
-    let a : drop i xs ≡ [] = at_drop_all (λ ls. ls) xs i p in
-    let b : drop j ys ≡ [] = at_drop_all (λ rs. rs) ys j q in
-    merging_ends zs xs ys (canonical_from xs hx) (canonical_from ys hy) (subst (λ rs. Merging zs [] rs xs ys) b (subst (λ ls. Merging zs ls (drop j ys) xs ys) a m))
-
-pub starts_at : (xs ys : List Run) → canonical xs ≡ true → canonical ys ≡ true → Merging [] xs ys xs ys
-starts_at xs ys hx hy = merging_starts xs ys (canonical_from xs hx) (canonical_from ys hy)
+pub length-extended : (zs : List Run) (r : Run) → length (extended zs r) ≤ length zs + 1
+length-extended [] r = omega arith
+length-extended (z ∷ []) r = cond_both (before z r) _ _ (λ ws. length ws ≤ 2) (λ _. omega arith) (λ _. omega arith)
+length-extended (z ∷ y ∷ zs) r = let i = length-extended (y ∷ zs) r in omega arith
 
 -- one more run, in memory whose first n runs are in use
 

@@ -1,5 +1,6 @@
 -- The order in which a merge of two canonical lists takes their runs, and what one more run adds at the end.
-use Rattle.std.specs.Prelude.{max, Bool, true, false, cond, ◌&&◌, ◌||◌, List, [], ◌∷◌, ◌==◌, nat_le, nat_lt}
+use Rattle.std.specs.Prelude.{◌≡◌, max, Bool, true, false, cond, ◌&&◌, ◌||◌, List, [], ◌∷◌, ◌==◌, nat_le, nat_lt}
+use Rattle.std.specs.Bool.{MatchBool}
 use Rattle.causal.specs.declared.runs.Run.{Run}
 use Rattle.causal.specs.Runs.{before}
 
@@ -12,6 +13,10 @@ abbrev pub left_next : List Run → List Run → Bool
 left_next [] rs = false
 left_next (l ∷ ls) [] = true
 left_next (l ∷ ls) (r ∷ rs) = starts_by l r
+
+-- of what is left of two lists, r is taken, which leaves ls and rs
+abbrev pub Takes : List Run → List Run → Run → List Run → List Run → Type 0
+Takes left right r ls rs = MatchBool (left_next left right) ((left ≡ r ∷ ls) × (right ≡ rs)) ((left ≡ ls) × (right ≡ r ∷ rs))
 
 -- r, carried on to the end of s where that is higher
 abbrev pub stretched : Run → Run → Run

@@ -11,18 +11,29 @@ pub mod union;
 pub const MOST_RUNS: usize = 96;
 
 // Why a context did not take what it was given.
-#[derive(Clone, Copy)]
+#[derive(Clone, Copy, Debug, PartialEq, Eq)]
 pub enum ContextFault {
     TooManyRuns,
     BadRun,
 }
 
 // The runs in front are in use. Those past them mean nothing.
+// Stays as it is: an array and a count, and not an `arrayvec::ArrayVec`, since the library stands on std alone and a context is copied.
 #[derive(Clone, Copy)]
 pub struct Context {
-    runs: [Run; 96],
+    runs: [Run; MOST_RUNS],
     count: usize,
     ghost long: { length runs ≡ 96 },
     ghost few: { count ≤ 96 },
     ghost ordered: { canonical (take count runs) ≡ true },
+}
+
+impl Context {
+    ghost use Rattle.contexts.specs.Contexts.{runs_of};
+
+    fn in_use(&self) -> &[Run]
+        ensures { result.now ≡ runs_of self.now }
+    {
+        &self.runs[..self.count]
+    }
 }

@@ -10,6 +10,7 @@ pub trait Kind: Copy + Drop {
     ghost code: { Self → ℕ };
 
     // The value of a code; none where the code does not fit.
+    // Stays as it is: `read` is like `char::from_u32`, since an error type for `TryFrom` would say nothing more; `to_code` is its other half, which this trait promises with the rest of a kind, and a `From` for `u64` beside each kind would be no plainer.
     fn read(number: u64) -> Option<Self>
         ensures { MatchOption result (kind.fits number ≡ false) (λ v. code v ≡ number) };
 

@@ -5,7 +5,10 @@ ghost use Rattle.std.proofs.lemmas.Bool.{le-leb};
 
 use crate::kind::Kind;
 
-#[derive(Clone, Copy)]
+// The highest limit.
+const MOST_AMPS: u64 = 4000;
+
+#[derive(Clone, Copy, Debug, PartialEq, Eq, PartialOrd, Ord)]
 pub struct Limit {
     amps: u16,
     ghost ok: { amps ≤ 4000 },
@@ -19,7 +22,7 @@ impl Kind for Limit {
     ghost fits = { λ v. le-leb v.amps 4000 v.ok };
 
     fn read(number: u64) -> Option<Limit> {
-        if number <= 4000 {
+        if number <= MOST_AMPS {
             Some(Limit {
                 amps: number as u16,
             })
@@ -29,10 +32,10 @@ impl Kind for Limit {
     }
 
     fn to_code(&self) -> u64 {
-        self.amps as u64
+        u64::from(self.amps)
     }
 
     fn join(self, other: Limit) -> Limit {
-        if self.amps < other.amps { self } else { other }
+        self.min(other)
     }
 }

@@ -5,7 +5,10 @@ ghost use Rattle.std.proofs.lemmas.Bool.{le-leb};
 
 use crate::kind::Kind;
 
-#[derive(Clone, Copy)]
+// All three phases.
+const ALL_LINES: u64 = 7;
+
+#[derive(Clone, Copy, Debug, PartialEq, Eq)]
 pub struct Lines {
     bits: u8,
     ghost ok: { bits ≤ 7 },
@@ -19,7 +22,7 @@ impl Kind for Lines {
     ghost fits = { λ v. le-leb v.bits 7 v.ok };
 
     fn read(number: u64) -> Option<Lines> {
-        if number <= 7 {
+        if number <= ALL_LINES {
             Some(Lines { bits: number as u8 })
         } else {
             None
@@ -27,9 +30,10 @@ impl Kind for Lines {
     }
 
     fn to_code(&self) -> u64 {
-        self.bits as u64
+        u64::from(self.bits)
     }
 
+    #[tactic(auto, using(crate::specs::Models::or_fits))]
     fn join(self, other: Lines) -> Lines {
         Lines {
             bits: self.bits | other.bits,

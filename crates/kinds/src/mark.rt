@@ -4,7 +4,7 @@ ghost use Rattle.std.specs.Prelude.{refl};
 
 use crate::kind::Kind;
 
-#[derive(Clone, Copy)]
+#[derive(Clone, Copy, Debug, PartialEq, Eq)]
 pub struct Mark;
 
 impl Kind for Mark {
@@ -15,15 +15,14 @@ impl Kind for Mark {
     ghost fits = { λ _. refl };
 
     fn read(number: u64) -> Option<Mark> {
-        if number == 0 { Some(Mark) } else { None }
+        (number == 0).then_some(Mark)
     }
 
     fn to_code(&self) -> u64 {
         0
     }
 
-    fn join(self, other: Mark) -> Mark {
-        let _ = other;
+    fn join(self, _: Mark) -> Mark {
         self
     }
 }

@@ -1,13 +1,16 @@
 // Unions of contexts: the runs of both are merged in order, and the finished list is judged.
-ghost use Rattle.std.specs.Prelude.{◌≡◌, ◌+◌, ◌<◌, ◌≤◌, true, false, length, take, drop, MatchResult};
+ghost use Rattle.std.specs.Iterator.{at_most};
+ghost use Rattle.std.specs.Prelude.{◌≡◌, ◌+◌, ◌<◌, ◌≤◌, true, false, List, [], length, take, MatchOption, MatchResult};
 ghost use Rattle.contexts.specs.Contexts.{runs_of, too_many, union_fault, bounded_union, run_fault, with_run};
-ghost use Rattle.contexts.specs.Merging.{starts_by, left_next, extended};
+ghost use Rattle.contexts.specs.Merging.{starts_by, left_next, Takes, extended};
+ghost use Rattle.causal.specs.declared.runs.Run.{Run};
 ghost use Rattle.causal.specs.Runs.{canonical, union};
 ghost use Rattle.contexts.specs.declared.context.ContextFault.TheVariants.{TooManyRuns};
 ghost use Rattle.std.specs.Result.{result_err};
 
 use crate::context::{Context, ContextFault, MOST_RUNS};
 use causal::runs::{NO_RUN, Run};
+use std::marker::Model;
 
 impl Context {
     // Adds the dots of the other context. Where the union has too many runs, nothing changes.
@@ -15,7 +18,7 @@ impl Context {
         ensures answer { result_err result ≡ union_fault (runs_of self.old) (runs_of other.now) }
         ensures after { runs_of self.new ≡ bounded_union (runs_of self.old) (runs_of other.now) }
     {
-        *self = united(&self.runs[0..self.count], &other.runs[0..other.count])?;
+        *self = united(self.in_use(), other.in_use())?;
         Ok(())
     }
 
@@ -27,8 +30,7 @@ impl Context {
         if !run.is_well_formed() {
             return Err(ContextFault::BadRun);
         }
-        let only = [run];
-        *self = united(&self.runs[0..self.count], &only)?;
+        *self = united(self.in_use(), &[run])?;
         Ok(())
     }
 }
@@ -42,83 +44,119 @@ fn united(xs: &[Run], ys: &[Run]) -> Result<Context, ContextFault>
     ensures { MatchResult result (λ c. (runs_of c ≡ union xs.now ys.now) × (too_many (union xs.now ys.now) ≡ false))
         (λ e. (e ≡ TooManyRuns) × (too_many (union xs.now ys.now) ≡ true)) }
 {
-    let mut merged = [NO_RUN; 192];
-    let count = merge_runs(xs, ys, &mut merged);
-    front_of(&merged, count)
+    let rest = Rest {
+        left: xs,
+        right: ys,
+    };
+    let mut merged = Merged::empty();
+    for run in rest {
+        merged.add(run);
+    }
+    merged.to_context()
 }
 
-// The first `count` runs as a context, where they are few enough.
-fn front_of(runs: &[Run], count: usize) -> Result<Context, ContextFault>
-    requires ordered { canonical (take count runs.now) ≡ true }
-    requires within { count ≤ length runs.now }
-    ensures { MatchResult result (λ c. (count ≤ 96) × (runs_of c ≡ take count runs.now)) (λ e. (96 < count) × (e ≡ TooManyRuns)) }
-{
-    if count > MOST_RUNS {
-        return Err(ContextFault::TooManyRuns);
-    }
-    let mut front = [NO_RUN; 96];
-    for i in 0..count {
-        front[i] = runs[i];
-    }
-    Ok(Context { runs: front, count })
+// What is left of two lists whose runs are taken in the order in which they start.
+#[derive(Drop)]
+struct Rest<'a> {
+    left: &'a [Run],
+    right: &'a [Run],
 }
 
-// Merges two canonical lists into `merged`, and answers how many runs their union has.
-fn merge_runs(xs: &[Run], ys: &[Run], merged: &mut [Run]) -> usize
-    requires left { canonical xs.now ≡ true }
-    requires right { canonical ys.now ≡ true }
-    requires room { length xs.now + length ys.now ≤ length merged.old }
-    ensures within { result ≤ length xs.now + length ys.now }
-    ensures union { take result merged.new ≡ union xs.now ys.now }
-{
-    let mut i = 0;
-    let mut j = 0;
-    let mut count = 0;
-    while i < xs.len() || j < ys.len() {
-        if left_is_next(xs, i, ys, j) {
-            count = extend_runs(merged, count, xs[i]);
-            i += 1;
+// Gives the run that is next, while either list has one.
+impl Iterator for Rest<'_> {
+    type Item = Run;
+
+    ghost next_gives = { λ s r t. MatchOption r ((s.left.now ≡ []) × (s.right.now ≡ [])) (λ run. Takes s.left.now s.right.now run t.left.now t.right.now) };
+
+    ghost remaining = { λ s. at_most (length s.left.now + length s.right.now) };
+
+    fn next(&mut self) -> Option<Run> {
+        if self.left_is_next() {
+            self.left.split_off_first().copied()
         } else {
-            count = extend_runs(merged, count, ys[j]);
-            j += 1;
+            self.right.split_off_first().copied()
         }
     }
-    count
 }
 
-// Whether of what is left of the two lists, from i and from j on, the first one's run comes next.
-fn left_is_next(xs: &[Run], i: usize, ys: &[Run], j: usize) -> bool
-    ensures { result ≡ left_next (drop i xs.now) (drop j ys.now) }
-{
-    if i >= xs.len() {
-        return false;
+impl Rest<'_> {
+    fn left_is_next(&self) -> bool
+        ensures { result ≡ left_next self.now.left.now self.now.right.now }
+    {
+        match (self.left, self.right) {
+            ([], _) => false,
+            (_, []) => true,
+            ([l, ..], [r, ..]) => starts_no_later(*l, *r),
+        }
     }
-    j >= ys.len() || starts_no_later(xs[i], ys[j])
 }
 
+#[tactic(auto, unfolding(crate::specs::Merging::starts_by))]
 fn starts_no_later(r: Run, s: Run) -> bool
     ensures { result ≡ starts_by r s }
 {
-    r.replica < s.replica || (r.replica == s.replica && r.first <= s.first)
+    (r.replica, r.first) <= (s.replica, s.first)
 }
 
-// Adds a run to the first `count`, which start no later: it stands apart, or stretches the last of them.
-fn extend_runs(runs: &mut [Run], count: usize, run: Run) -> usize
-    requires { count < length runs.old }
-    ensures bound { result ≤ count + 1 }
-    ensures after { take result runs.new ≡ extended (take count runs.old) run }
-{
-    if count > 0 {
-        let last = runs[count - 1];
-        if !last.ends_before(run) {
-            runs[count - 1] = Run {
-                replica: last.replica,
-                first: last.first,
-                last: last.last.max(run.last),
-            };
-            return count;
+// As many runs as two contexts have.
+const MOST_MERGED: usize = 2 * MOST_RUNS;
+
+// The runs that a merge has made so far, with room for those of two contexts.
+// Stays as it is: an array and a count like a context's, but no type for both: a context is copied, keeps its canonical order in a ghost field, and `runs_of` reads its fields, while this is a list of one function, with a model.
+#[derive(Drop)]
+struct Merged {
+    runs: [Run; MOST_MERGED],
+    count: usize,
+}
+
+impl Model for Merged {
+    ghost Value = { List Run };
+
+    ghost view = { λ m. take m.count m.runs };
+
+    ghost invariant = { λ m. (length m.runs ≡ 192) × (m.count ≤ 192) };
+}
+
+impl Merged {
+    fn empty() -> Merged
+        ensures { result ≡ [] }
+    {
+        Merged {
+            runs: [NO_RUN; MOST_MERGED],
+            count: 0,
         }
     }
-    runs[count] = run;
-    count + 1
+
+    // Adds a run that starts no earlier than the last: it stands apart, or stretches that one.
+    fn add(&mut self, run: Run)
+        requires { length self.old < 192 }
+        ensures { self.new ≡ extended self.old run }
+    {
+        // Stays as it is: with `last_mut` on the runs in use the proof did not close.
+        if self.count > 0 {
+            let last = self.runs[self.count - 1];
+            if !last.ends_before(run) {
+                self.runs[self.count - 1].last = last.last.max(run.last);
+                return;
+            }
+        }
+        self.runs[self.count] = run;
+        self.count += 1;
+    }
+
+    // These runs as a context, where they are few enough.
+    fn to_context(&self) -> Result<Context, ContextFault>
+        requires { canonical self.now ≡ true }
+        ensures { MatchResult result (λ c. (runs_of c ≡ self.now) × (too_many self.now ≡ false)) (λ e. (e ≡ TooManyRuns) × (too_many self.now ≡ true)) }
+    {
+        if self.count > MOST_RUNS {
+            return Err(ContextFault::TooManyRuns);
+        }
+        let mut runs = [NO_RUN; MOST_RUNS];
+        runs[..self.count].copy_from_slice(&self.runs[..self.count]);
+        Ok(Context {
+            runs,
+            count: self.count,
+        })
+    }
 }

@@ -6,7 +6,7 @@ use Rattle.std.proofs.lemmas.Bool.{cases_Bool, cases_eq, cond-true, cond-false, 
 use Rattle.std.proofs.lemmas.List.Elements.{filter-append}
 use Rattle.std.proofs.ByRecursion.{All-weaker, All-append}
 use Rattle.std.proofs.lemmas.List.{append-nil, map-append, length-map, length-take, get_or-take, get_or_append_left, get_or-append_right}
-use Rattle.std.proofs.lemmas.Option.{slice_get_past}
+use Rattle.std.proofs.Math.Bool.{or_assoc}
 use Rattle.causal.specs.declared.dots.Dot.{Dot}
 use Rattle.causal.specs.Places.{same_place}
 use Rattle.kinds.specs.Kinds.{ValueKind}
@@ -17,11 +17,11 @@ use Rattle.stores.specs.declared.faults.StoreFault.TheVariants.{Address, Unfit, 
 use Rattle.stores.specs.Items.{Item, spot_less, item_at, in_part, count_part, entry_at, find, has_dot, stands, recode, merge, merge_dot, insert_item, precedes, put_items, strike_items, Apart}
 use Rattle.stores.specs.Faults.{refusal_of, renumbered, part_full}
 use Rattle.stores.specs.Puts.{crowded, full_if, first_of, misfit_of, misfit, put_refusal, accept, put_of, put_after}
-use Rattle.stores.specs.Sound.{Orderly, most_parts}
+use Rattle.stores.specs.Sound.{FewParts, Roomy, Orderly, most_parts}
 use Rattle.pairs.specs.Pairs.{raise, both, paired}
 use Rattle.stores.proofs.ItemOrder.{lower_precedes, higher_follows, ltb_add, eqb_add}
 use Rattle.stores.proofs.Held.{lacks, merge_absent, absent_stands, rest_absent}
-use Rattle.stores.proofs.Stays.{cond_out, some_none, absent_from, misfit_told}
+use Rattle.stores.proofs.Stays.{cond_out, some_none, absent_from, misfit_told, all_placed, orderly_put}
 
 -- lists in general
 
@@ -84,9 +84,6 @@ module _ {X : Type 0} (ks ls : List X) (p : ℕ) where
 
   pub nth_high : length ks ≤ p → p < most_parts → slice_get (paired ks ls) p ≡ slice_get ls (p - length ks)
   nth_high h l = nth_take most_parts (ks ++ ls) p l ∙ nth_right ks ls p h
-
-  pub nth_none : most_parts ≤ p → slice_get (paired ks ls) p ≡ None
-  nth_none h = slice_get_past (paired ks ls) p (let s = paired_short ks ls in omega arith)
 
 module _ (us vs : List ℕ) (p : ℕ) where
   pub room_low : length us ≤ most_parts → p < length us → get_or (paired us vs) p 0 ≡ get_or us p 0
@@ -169,8 +166,8 @@ is_some_mapped f None = refl
 is_some_mapped f (Some x) = refl
 
 -- what `is_some` of a `find` tells
-pub told : {X : Type 0} (f : X → Item) (r : Option X) (d : Dot) (ys : List Item) (b c : Bool) → option_map f r ≡ find d ys → b ≡ is_some r → b ≡ c → stands d ys ≡ c
-told f r d ys b c e h t = sym (find_stands d ys) ∙ ap is_some (sym e) ∙ is_some_mapped f r ∙ sym h ∙ t
+pub told : (r : Option (ℕ × Entry ℕ)) (d : Dot) (ys : List Item) (b : Bool) → option_map (λ x. item_at x.0 x.1) r ≡ find d ys → b ≡ is_some r → stands d ys ≡ b
+told r d ys b e h = sym (find_stands d ys) ∙ ap is_some (sym e) ∙ is_some_mapped (λ (x : ℕ × Entry ℕ). item_at x.0 x.1) r ∙ sym h
 
 pub found_second : (n p q : ℕ) (d : Dot) (e : Entry ℕ) (xs ys : List Item) → None ≡ find d xs → Some (item_at p e) ≡ find d ys → q ≡ n + p → Some (item_at q e) ≡ find d (both n xs ys)
 found_second n p q d e xs ys f s h =
@@ -186,17 +183,13 @@ found_none n d xs ys f s = ap (option_map (raise n)) s ∙ sym (find_raise n d y
 pub found_part : (m : ℕ) (d : Dot) (x : Item) (ys : List Item) → AllByRecursion (λ y. y.part < m) ys → Some x ≡ find d ys → x.part < m
 found_part m d x ys h e = subst (λ o. IfSome o (λ y. y.part < m)) (sym e) (find_all (λ y. y.part < m) d ys h)
 
-or_assoc : (a b c : Bool) → (a || (b || c)) ≡ ((a || b) || c)
-or_assoc true b c = refl
-or_assoc false b c = refl
-
 or_none : (a : Bool) → (a || false) ≡ a
 or_none true = refl
 or_none false = refl
 
 stands_append : (d : Dot) (xs zs : List Item) → stands d (xs ++ zs) ≡ (stands d xs || stands d zs)
 stands_append d [] zs = refl
-stands_append d (x ∷ xs) zs = ap (λ b. has_dot d x || b) (stands_append d xs zs) ∙ or_assoc (has_dot d x) (stands d xs) (stands d zs)
+stands_append d (x ∷ xs) zs = ap (λ b. has_dot d x || b) (stands_append d xs zs) ∙ sym (or_assoc (has_dot d x) (stands d xs) (stands d zs))
 
 stands_raise : (n : ℕ) (d : Dot) (ys : List Item) → stands d (map (raise n) ys) ≡ stands d ys
 stands_raise n d [] = refl
@@ -305,7 +298,27 @@ accept_full : {X : Type 0} (p q : ℕ) (b : Bool) (x y : X) → accept (full_if 
 accept_full p q true x y = refl
 accept_full p q false x y = refl
 
-module _ (ka kb : List ValueKind) (ca cb : List ℕ) (xs ys : List Item) (p : ℕ) (e : Entry ℕ) (few : length ka ≤ most_parts) (long : length ca ≡ length ka) (low : AllByRecursion (λ x. x.part < length ka) xs) where
+-- orderly, and so at equal capacities and an equal list
+pub orderly_at : (ks : List ValueKind) (cs ds : List ℕ) (zs ws : List Item) → ds ≡ cs → ws ≡ zs → Orderly ks cs zs → Orderly ks ds ws
+orderly_at ks cs ds zs ws e f h = subst (λ us. Orderly ks us ws) (sym e) (subst (Orderly ks cs) (sym f) h)
+
+-- what two stores are, and what they are as one
+pub record Halves (ka kb : List ValueKind) (ca cb : List ℕ) (xs ys : List Item) : Type 0 where
+  pub parts : FewParts ka
+  pub roomy : Roomy ka ca
+  pub first : Orderly ka ca xs
+  pub orderly : Orderly (paired ka kb) (paired ca cb) (both (length ka) xs ys)
+
+module _ {ka kb : List ValueKind} {ca cb : List ℕ} {xs ys : List Item} (two : Halves ka kb ca cb xs ys) (p : ℕ) (e : Entry ℕ) where
+  few : length ka ≤ most_parts
+  few = two.parts.few
+
+  long : length ca ≡ length ka
+  long = two.roomy.even
+
+  low : AllByRecursion (λ x. x.part < length ka) xs
+  low = all_placed ka xs two.first.proper
+
   abbrev ws : List Item
   ws = both (length ka) xs ys
 
@@ -324,7 +337,7 @@ module _ (ka kb : List ValueKind) (ca cb : List ℕ) (xs ys : List Item) (p : �
 
     -- the dot stands in the other store
     module _ (s : stands e.dot ws ≡ true) where
-      pub stood : None ≡ put_refusal ks cs ws p e
+      stood : None ≡ put_refusal ks cs ws p e
       stood = sym (refusal_is ∙ ap (full_if p) (and_left (not (stands e.dot ws)) (leb (get_or cs p 0) (count_part p ws)) (ap not s)))
 
       stood_after : AllByRecursion (λ y. (k : ValueKind) → merge_dot k (item_at p e) y ≡ y) ws → ws ≡ put_after ks cs ws p e
@@ -334,8 +347,9 @@ module _ (ka kb : List ValueKind) (ca cb : List ℕ) (xs ys : List Item) (p : �
           go None = refl
           go (Some k) = sym (put_other (length ka) k xs ys (item_at p e) s (All-weaker (λ y. (k : ValueKind) → merge_dot k (item_at p e) y ≡ y) (λ y. merge_dot k (item_at p e) y ≡ y) (λ y q. q k) ws h))
 
-      pub stood_low : p < length ka → stands e.dot ys ≡ true → Apart ws → ws ≡ put_after ks cs ws p e
-      stood_low h t a =
+      stood_low : p < length ka → stands e.dot ys ≡ true → ws ≡ put_after ks cs ws p e
+      stood_low h t =
+          let a = two.orderly.apart in
           let n = length ka in
           let Q : Item → Type 0 = λ y. (k : ValueKind) → merge_dot k (item_at p e) y ≡ y in
           stood_after (All-append Q xs (map (raise n) ys)
@@ -346,8 +360,9 @@ module _ (ka kb : List ValueKind) (ca cb : List ℕ) (xs ys : List Item) (p : �
           raised [] = tt
           raised (v ∷ vs) = ((λ k. other_part k (item_at p e) (raise (length ka) v) (λ q. omega arith)), raised vs)
 
-      pub stood_high : length ka ≤ p → stands e.dot xs ≡ true → Apart ws → ws ≡ put_after ks cs ws p e
-      stood_high h t a =
+      stood_high : length ka ≤ p → stands e.dot xs ≡ true → ws ≡ put_after ks cs ws p e
+      stood_high h t =
+          let a = two.orderly.apart in
           let n = length ka in
           let Q : Item → Type 0 = λ y. (k : ValueKind) → merge_dot k (item_at p e) y ≡ y in
           stood_after (All-append Q xs (map (raise n) ys)
@@ -388,10 +403,10 @@ module _ (ka kb : List ValueKind) (ca cb : List ℕ) (xs ys : List Item) (p : �
           ∙ accept_out (λ w. both (length ka) xs w) (full_if q b) (put_of (slice_get kb q) (item_at q e) ys) ys
           ∙ ap (λ f. both (length ka) xs (accept f (put_of (slice_get kb q) (item_at q e) ys) ys)) (sym second_is))
 
-  pub stands_second : stands e.dot ys ≡ true → stands e.dot ws ≡ true
+  stands_second : stands e.dot ys ≡ true → stands e.dot ws ≡ true
   stands_second t = stands_append e.dot xs (map (raise (length ka)) ys) ∙ or_right (stands e.dot xs) (stands e.dot (map (raise (length ka)) ys)) (stands_raise (length ka) e.dot ys ∙ t)
 
-  pub stands_first : stands e.dot xs ≡ true → stands e.dot ws ≡ true
+  stands_first : stands e.dot xs ≡ true → stands e.dot ws ≡ true
   stands_first t = stands_append e.dot xs (map (raise (length ka)) ys) ∙ or_left (stands e.dot xs) (stands e.dot (map (raise (length ka)) ys)) t
 
   -- handed on to the first store
@@ -413,6 +428,13 @@ module _ (ka kb : List ValueKind) (ca cb : List ℕ) (xs ys : List Item) (p : �
       go None = refl
       go (Some k) = put_low (length ka) k xs ys (item_at p e) h s
 
--- orderly, and so at equal capacities and an equal list
-pub orderly_at : (ks : List ValueKind) (cs ds : List ℕ) (zs ws : List Item) → ds ≡ cs → ws ≡ zs → Orderly ks cs zs → Orderly ks ds ws
-orderly_at ks cs ds zs ws e f h = subst (λ us. Orderly ks us ws) (sym e) (subst (Orderly ks cs) (sym f) h)
+  pub put_keeps : (ds : List ℕ) (zs : List Item) → ds ≡ cs → zs ≡ put_after ks cs ws p e → Orderly ks ds zs
+  put_keeps ds zs r a = orderly_at ks cs ds (put_after ks cs ws p e) zs r a (orderly_put ks cs ws p e two.orderly)
+
+  -- an entry of one store, whose dot stands in the other
+  module _ (fits : misfit ks p e ≡ None) where
+    pub stays_low : p < length ka → stands e.dot ys ≡ true → (None ≡ put_refusal ks cs ws p e) × (ws ≡ put_after ks cs ws p e)
+    stays_low h t = let s = stands_second t in (stood fits s, stood_low fits s h t)
+
+    pub stays_high : length ka ≤ p → stands e.dot xs ≡ true → (None ≡ put_refusal ks cs ws p e) × (ws ≡ put_after ks cs ws p e)
+    stays_high h t = let s = stands_first t in (stood fits s, stood_high fits s h t)

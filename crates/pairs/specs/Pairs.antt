@@ -5,7 +5,7 @@ use Rattle.std.proofs.lemmas.List.{length-take}
 use Rattle.std.proofs.ByRecursion.{All-append, All-take}
 use Rattle.kinds.specs.Kinds.{ValueKind}
 use Rattle.stores.specs.Items.{Item}
-use Rattle.stores.specs.Sound.{Orderly, FewParts, Roomy, most_parts, most_entries}
+use Rattle.stores.specs.Sound.{FewParts, Roomy, most_parts, most_entries}
 
 -- x, its part counted from n
 abbrev pub raise : ℕ → Item → Item
@@ -18,12 +18,6 @@ both n xs ys = xs ++ map (raise n) ys
 -- a thing for each part, of the parts that a pair has
 abbrev pub paired : {X : Type 0} → List X → List X → List X
 paired xs ys = take most_parts (xs ++ ys)
-
--- each store is sound, and the two together are orderly: no dot stands in both
-pub record SoundPair (P Q : Type 0) (ks : List ValueKind) (caps : List ℕ) (zs : List Item) : Type 0 where
-  pub first : P
-  pub second : Q
-  pub orderly : Orderly ks caps zs
 
 -- how many parts a pair has, and their capacities
 

@@ -1,5 +1,4 @@
 // Pairs: two stores as one.
 #![tactic(auto)]
 
-mod halves;
 pub mod pair;

@@ -1,8 +1,8 @@
 // Two stores as one: the parts of the first, then those of the second, the first eight of them.
 ghost use Rattle.std.specs.Prelude.{◌≡◌, [], length};
-ghost use Rattle.pairs.specs.Pairs.{both, paired, SoundPair, paired_few, paired_roomy};
+ghost use Rattle.stores.specs.Sound.{Orderly, Orderly-prop};
+ghost use Rattle.pairs.specs.Pairs.{both, paired, paired_few, paired_roomy};
 
-use crate::halves::{count_in, entry_in, find_in, paired_misfit, paired_parts, strike_in};
 use causal::dots::Dot;
 use stores::dot_store::{DotStore, MOST_PARTS};
 use stores::entries::Entry;
@@ -10,9 +10,10 @@ use stores::faults::StoreFault;
 
 // Two stores, in which no dot stands twice.
 #[derive(Drop)]
-pub struct Pair<A, B> {
+pub struct Pair<A: DotStore, B: DotStore> {
     first: A,
     second: B,
+    ghost orderly: { Orderly (paired A.DotStore.kinds B.DotStore.kinds) (paired (A.DotStore.capacities first) (B.DotStore.capacities second)) (both (length A.DotStore.kinds) (A.DotStore.entries first) (B.DotStore.entries second)) } by { Orderly-prop },
 }
 
 impl<A: DotStore, B: DotStore> Pair<A, B> {
@@ -20,7 +21,6 @@ impl<A: DotStore, B: DotStore> Pair<A, B> {
     pub fn new(mut low: A, mut high: B) -> Self
         ensures room { (A.DotStore.capacities result.first ≡ A.DotStore.capacities low) × (B.DotStore.capacities result.second ≡ B.DotStore.capacities high) }
         ensures empty { (A.DotStore.entries result.first ≡ []) × (B.DotStore.entries result.second ≡ []) }
-        ensures sound { A.DotStore.sound low → B.DotStore.sound high → SoundPair (A.DotStore.sound result.first) (B.DotStore.sound result.second) (paired A.DotStore.kinds B.DotStore.kinds) (paired (A.DotStore.capacities result.first) (B.DotStore.capacities result.second)) (both (length A.DotStore.kinds) (A.DotStore.entries result.first) (B.DotStore.entries result.second)) }
     {
         low.clear();
         high.clear();
@@ -31,6 +31,7 @@ impl<A: DotStore, B: DotStore> Pair<A, B> {
     }
 }
 
+// Which half has a part stays a condition in each call: a function would answer in an enum that each call takes apart again.
 impl<A: DotStore, B: DotStore> DotStore for Pair<A, B> {
     ghost kinds = { paired A.DotStore.kinds B.DotStore.kinds };
 
@@ -42,12 +43,10 @@ impl<A: DotStore, B: DotStore> DotStore for Pair<A, B> {
 
     ghost entries = { λ p. both (length A.DotStore.kinds) (A.DotStore.entries p.first) (B.DotStore.entries p.second) };
 
-    ghost sound = { λ p. SoundPair (A.DotStore.sound p.first) (B.DotStore.sound p.second) (paired A.DotStore.kinds B.DotStore.kinds) (paired (A.DotStore.capacities p.first) (B.DotStore.capacities p.second)) (both (length A.DotStore.kinds) (A.DotStore.entries p.first) (B.DotStore.entries p.second)) };
-
-    ghost orderly = { λ _ h. h.orderly };
+    ghost orderly = { λ p. p.orderly };
 
     fn part_count() -> usize {
-        paired_parts::<A, B>()
+        (A::part_count() + B::part_count()).min(MOST_PARTS)
     }
 
     fn fits(part: usize, code: u64) -> bool {
@@ -62,7 +61,12 @@ impl<A: DotStore, B: DotStore> DotStore for Pair<A, B> {
     }
 
     fn count(&self, part: usize) -> usize {
-        count_in(&self.first, &self.second, part)
+        let parts = A::part_count();
+        if part < parts {
+            self.first.count(part)
+        } else {
+            self.second.count(part - parts)
+        }
     }
 
     fn capacity(&self, part: usize) -> usize {
@@ -77,17 +81,24 @@ impl<A: DotStore, B: DotStore> DotStore for Pair<A, B> {
     }
 
     fn entry(&self, part: usize, position: usize) -> Option<Entry<u64>> {
-        entry_in(&self.first, &self.second, part, position)
+        let parts = A::part_count();
+        if part < parts {
+            self.first.entry(part, position)
+        } else {
+            self.second.entry(part - parts, position)
+        }
     }
 
     fn find(&self, dot: Dot) -> Option<(usize, Entry<u64>)> {
-        find_in(&self.first, &self.second, dot)
+        if let Some(found) = self.first.find(dot) {
+            return Some(found);
+        }
+        let (part, entry) = self.second.find(dot)?;
+        Some((A::part_count() + part, entry))
     }
 
     fn put(&mut self, part: usize, entry: Entry<u64>) -> Result<(), StoreFault> {
-        if let Some(fault) = paired_misfit::<A, B>(part, entry) {
-            return Err(fault);
-        }
+        Self::check(part, entry)?;
         let parts = A::part_count();
         if part < parts {
             if self.second.find(entry.dot).is_some() {
@@ -98,14 +109,14 @@ impl<A: DotStore, B: DotStore> DotStore for Pair<A, B> {
         if self.first.find(entry.dot).is_some() {
             return Ok(());
         }
-        match self.second.put(part - parts, entry) {
-            Ok(()) => Ok(()),
-            Err(fault) => Err(fault.renumber(part)),
-        }
+        self.second
+            .put(part - parts, entry)
+            .map_err(|fault| fault.renumber(part))
     }
 
     fn strike(&mut self, dot: Dot) {
-        strike_in(&mut self.first, &mut self.second, dot);
+        self.first.strike(dot);
+        self.second.strike(dot);
     }
 
     fn clear(&mut self) {

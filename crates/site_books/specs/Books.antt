@@ -3,11 +3,10 @@ use Rattle.std.specs.Prelude.{List, [], ◌∷◌, ℕ, length, take}
 use Rattle.kinds.specs.declared.limit.Limit.{Limit}
 use Rattle.kinds.specs.declared.lines.Lines.{Lines}
 use Rattle.kinds.specs.declared.mark.Mark.{Mark}
-use Rattle.kinds.specs.Models.{limit_kind, lines_kind, mark_kind}
 use Rattle.stores.specs.declared.entries.Entry.{Entry}
 use Rattle.stores.specs.Items.{Item}
-use Rattle.tables.specs.Rows.{items, usable, SoundRows}
-use Rattle.pairs.specs.Pairs.{both, SoundPair}
+use Rattle.tables.specs.Rows.{items, usable}
+use Rattle.pairs.specs.Pairs.{both}
 
 -- the codes of limits, lines and marks
 abbrev pub limit_code : Limit → ℕ
@@ -28,17 +27,3 @@ module _ (n : ℕ) (limits : List (Entry Limit)) (m : ℕ) (lines : List (Entry 
   -- the items of all three parts
   abbrev pub book_items : List Item
   book_items = both 1 (items limit_code (take n limits)) (both 1 (items lines_code (take m lines)) (items mark_code (take k marks)))
-
-  -- a site book in these rows is sound
-  abbrev pub SoundBook : Type 0
-  SoundBook = SoundPair
-      (SoundRows limit_kind limit_code n limits)
-      (SoundPair
-      (SoundRows lines_kind lines_code m lines)
-      (SoundRows mark_kind mark_code k marks)
-      (lines_kind ∷ mark_kind ∷ [])
-      (usable (length lines) ∷ usable (length marks) ∷ [])
-      (both 1 (items lines_code (take m lines)) (items mark_code (take k marks))))
-      (limit_kind ∷ lines_kind ∷ mark_kind ∷ [])
-      (book_room limits lines marks)
-      book_items

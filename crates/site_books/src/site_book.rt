@@ -1,6 +1,6 @@
 // The book of a site: limits of feeders in part 0, lines of sockets in part 1, marks in part 2.
 ghost use Rattle.std.specs.Prelude.{◌≡◌, []};
-ghost use Rattle.site_books.specs.Books.{book_items, book_room, SoundBook};
+ghost use Rattle.site_books.specs.Books.{book_items, book_room};
 
 use kinds::limit::Limit;
 use kinds::lines::Lines;
@@ -20,7 +20,6 @@ pub fn new_site_book<'a>(
 ) -> SiteBook<'a>
     ensures empty { book_items result.first.len result.first.rows.now result.second.first.len result.second.first.rows.now result.second.second.len result.second.second.rows.now ≡ [] }
     ensures room { book_room result.first.rows.now result.second.first.rows.now result.second.second.rows.now ≡ book_room limits.old lines.old marks.old }
-    ensures sound { SoundBook result.first.len result.first.rows.now result.second.first.len result.second.first.rows.now result.second.second.len result.second.second.rows.now }
 {
     let later = Pair::new(Table::new(lines), Table::new(marks));
     Pair::new(Table::new(limits), later)

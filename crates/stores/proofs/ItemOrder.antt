@@ -1,75 +1,17 @@
 -- The order of items, from the orders of places and dots alone.
-use Rattle.std.proofs.Common.{◌≡◌, ℕ, ◌+◌, ◌<◌, Bool, true, false, cond, ◌&&◌, ◌||◌, eqb, ltb, Ordering, Less, Equal, Greater, sym, refl, ap, ◌∙◌, ap₂, inl, inr, arith}
+use Rattle.std.proofs.Common.{◌≡◌, ℕ, ◌+◌, ◌<◌, Bool, true, false, ◌&&◌, ◌||◌, eqb, ltb, sym, ap, ◌∙◌, inl, inr, arith}
 use Rattle.std.proofs.lemmas.Bool.Decides.{nat_tests}
-use Rattle.std.proofs.lemmas.Bool.{cases_Bool, both_ways, cond-true, or_left, or_from, and_left, lt-ltb, le-ltb, eq-eqb, ne_eqb, cases_lt, cases_eq}
+use Rattle.std.proofs.lemmas.Bool.{cases_Bool, both_ways, or_left, or_from, and_left, lt-ltb, le-ltb, eq-eqb, ne_eqb, cases_lt, cases_eq}
 use Rattle.causal.specs.declared.dots.Dot.{Dot}
-use Rattle.causal.specs.Dots.{same_dot, dot_less, ranking}
+use Rattle.causal.specs.Dots.{same_dot, dot_less}
 use Rattle.causal.specs.Orders.{TotalOrder}
 use Rattle.causal.proofs.OrderLaws.{dots_total, places_total}
 use Rattle.stores.specs.Items.{Item, precedes, spot_less}
 
--- what a comparison tells
-
-rank_less : (l h : Bool) → Less ≡ ranking l h → l ≡ true
-rank_less true h e = refl
-rank_less false true e = let z : ◌≡◌ {A = ℕ} 0 1 = cc in absurd (omega arith)
-rank_less false false e = let z : ◌≡◌ {A = ℕ} 0 1 = cc in absurd (omega arith)
-
-rank_greater : (l h : Bool) → Greater ≡ ranking l h → (l ≡ false) × (h ≡ true)
-rank_greater true h e = let z : ◌≡◌ {A = ℕ} 0 1 = cc in absurd (omega arith)
-rank_greater false true e = (refl, refl)
-rank_greater false false e = let z : ◌≡◌ {A = ℕ} 0 1 = cc in absurd (omega arith)
-
-rank_equal : (l h : Bool) → Equal ≡ ranking l h → (l ≡ false) × (h ≡ false)
-rank_equal true h e = let z : ◌≡◌ {A = ℕ} 0 1 = cc in absurd (omega arith)
-rank_equal false true e = let z : ◌≡◌ {A = ℕ} 0 1 = cc in absurd (omega arith)
-rank_equal false false e = (refl, refl)
-
 module _ {X : Type 0} {less same : X → X → Bool} (o : TotalOrder less same) where
-  abbrev order : X → X → Ordering
-  order x y = ranking (less x y) (less y x)
-
-  pub equal_same : (x y : X) → Equal ≡ order x y → same x y ≡ true
-  equal_same x y e =
-      let h = rank_equal (less x y) (less y x) e in
-      ap (same x) (sym (o.connected x y h.0 h.1)) ∙ o.same_self x
-
-  pub equal_level : (x y : X) → Equal ≡ order x y → less x y ≡ false
-  equal_level x y e = (rank_equal (less x y) (less y x) e).0
-
-  pub less_apart : (x y : X) → less x y ≡ true → same x y ≡ false
-  less_apart x y h = elim (cases_Bool (same x y))
-      [ inl t ↦ absurd (both_ways (less x y) (ap (less x) (sym (o.same_is x y t)) ∙ o.irreflexive x) h) | inr f ↦ f ]
-
   pub turned : (x y : X) → same x y ≡ false → same y x ≡ false
   turned x y h = elim (cases_Bool (same y x))
       [ inl t ↦ absurd (both_ways (same x y) h (ap (same x) (o.same_is y x t) ∙ o.same_self x)) | inr f ↦ f ]
-
-  pub less_not_back : (x y : X) → less x y ≡ true → less y x ≡ false
-  less_not_back x y h = elim (cases_Bool (less y x))
-      [ inl t ↦ absurd (both_ways (less x x) (o.irreflexive x) (o.transitive x y x h t)) | inr f ↦ f ]
-
-  pub greater_apart : (x y : X) → Greater ≡ order x y → (less x y ≡ false) × (same x y ≡ false)
-  greater_apart x y e =
-      let h = rank_greater (less x y) (less y x) e in
-      (h.0, turned y x (less_apart y x h.1))
-
-  pub less_told : (x y : X) → Less ≡ order x y → less x y ≡ true
-  less_told x y e = rank_less (less x y) (less y x) e
-
-  pub not_less_told : (x y : X) (r : Ordering) → r ≡ order x y → (r ≡ Less → ⊥) → less x y ≡ false
-  not_less_told x y r e ne = elim (cases_Bool (less x y)) [ inl t ↦ absurd (ne (e ∙ cond-true (less x y) Less (cond (less y x) Greater Equal) t)) | inr f ↦ f ]
-
-  pub not_equal_told : (x y : X) (r : Ordering) → r ≡ order x y → (r ≡ Equal → ⊥) → same x y ≡ false
-  not_equal_told x y r e ne = elim (cases_Bool (same x y))
-      [ inl t ↦ absurd (ne (e ∙ level t)) | inr f ↦ f ]
-    where
-      level : same x y ≡ true → order x y ≡ Equal
-      level t =
-          let p = o.same_is x y t in
-          let a : less x y ≡ false = ap (less x) (sym p) ∙ o.irreflexive x in
-          let b : less y x ≡ false = ap (λ z. less z x) (sym p) ∙ o.irreflexive x in
-          ap₂ ranking a b
 
   -- one level of an order by this and then something else
   abbrev then_by : X → X → Bool → Bool

@@ -4,3 +4,4 @@ pub mod Puts
 pub mod Sound
 pub mod Laws
 pub mod Walks
+pub mod PartEntries

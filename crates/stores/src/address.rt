@@ -5,15 +5,10 @@ ghost use Rattle.stores.specs.Puts.{is_address};
 use causal::dots::Dot;
 use causal::places::Place;
 
-// Whether the place is well-formed and has a key, and the dot is well-formed.
+// Whether the place is well-formed and has a key, and the dot is well-formed. Takes these two and no entry, since they are all of an
+// address: an entry's value, of whatever type, has no say.
 pub fn is_entry_address(place: Place, dot: Dot) -> bool
     ensures { result ≡ is_address place dot }
 {
-    if !place.is_well_formed() {
-        return false;
-    }
-    if place.depth() == 0 {
-        return false;
-    }
-    dot.is_well_formed()
+    place.is_well_formed() && place.depth() != 0 && dot.is_well_formed()
 }

@@ -35,11 +35,8 @@ pub trait DotStore {
     // What the store holds.
     ghost entries: { Self → List Item };
 
-    // What holds of every store that a constructor made, and that every call keeps.
-    ghost sound: { Self → Type 0 };
-
-    // What a sound store satisfies.
-    ghost orderly: { (s : Self) → sound s → Orderly kinds (capacities s) (entries s) };
+    // They stand in order, no dot twice, each at a good place and dot with a code of its part's kind, and no part is over its capacity.
+    ghost orderly: { (s : Self) → Orderly kinds (capacities s) (entries s) };
 
     // How many parts there are.
     fn part_count() -> usize
@@ -49,23 +46,23 @@ pub trait DotStore {
     fn fits(part: usize, code: u64) -> bool
         ensures { result ≡ fits_part kinds part code };
 
-    // What is wrong with the entry, whatever the store holds.
-    fn misfit(part: usize, entry: Entry<u64>) -> Option<StoreFault>
-        ensures { option_map refusal_of result ≡ misfit kinds part entry }
+    // Refuses an entry with which something is wrong, whatever the store holds. Stays with the part beside the entry: a part is any
+    // number here, and `PartEntry`, with a part of one byte, belongs to records, above this crate.
+    fn check(part: usize, entry: Entry<u64>) -> Result<(), StoreFault>
+        ensures { option_map refusal_of (result_err result) ≡ misfit kinds part entry }
     {
         if part >= Self::part_count() || !is_entry_address(entry.place, entry.dot) {
-            return Some(StoreFault::Address);
+            return Err(StoreFault::Address);
         }
-        if Self::fits(part, entry.value) {
-            None
-        } else {
-            Some(StoreFault::Unfit)
+        if !Self::fits(part, entry.value) {
+            return Err(StoreFault::Unfit);
         }
+        Ok(())
     }
 
     // How many entries the part holds.
     fn count(&self, part: usize) -> usize
-        ensures { sound self.now → result ≡ count_part part (entries self.now) };
+        ensures { result ≡ count_part part (entries self.now) };
 
     // How many entries the part has room for.
     fn capacity(&self, part: usize) -> usize
@@ -73,28 +70,28 @@ pub trait DotStore {
 
     // The entry at this position of the part.
     fn entry(&self, part: usize, position: usize) -> Option<Entry<u64>>
-        ensures { sound self.now → option_map (item_at part) result ≡ entry_at part position (entries self.now) };
+        ensures { option_map (item_at part) result ≡ entry_at part position (entries self.now) };
 
     // The entry with the dot, and its part.
     fn find(&self, dot: Dot) -> Option<(usize, Entry<u64>)>
-        ensures { sound self.now → option_map (λ x. item_at x.0 x.1) result ≡ find dot (entries self.now) };
+        ensures { option_map (λ x. item_at x.0 x.1) result ≡ find dot (entries self.now) };
+
+    // The calls below leave the capacities as they are: each says so in a clause, since that is about two states of the store, and an
+    // invariant about one.
 
     // Puts the entry in; joins its code to that of an entry with the dot at that part and place; leaves one elsewhere.
     fn put(&mut self, part: usize, entry: Entry<u64>) -> Result<(), StoreFault>
         ensures room { capacities self.new ≡ capacities self.old }
-        ensures answer { sound self.old → option_map refusal_of (result_err result) ≡ put_refusal kinds (capacities self.old) (entries self.old) part entry }
-        ensures after { sound self.old → entries self.new ≡ put_after kinds (capacities self.old) (entries self.old) part entry }
-        ensures stays { sound self.old → sound self.new };
+        ensures answer { option_map refusal_of (result_err result) ≡ put_refusal kinds (capacities self.old) (entries self.old) part entry }
+        ensures after { entries self.new ≡ put_after kinds (capacities self.old) (entries self.old) part entry };
 
     // Takes the entry with the dot out, if any.
     fn strike(&mut self, dot: Dot)
         ensures room { capacities self.new ≡ capacities self.old }
-        ensures after { sound self.old → entries self.new ≡ strike_items dot (entries self.old) }
-        ensures stays { sound self.old → sound self.new };
+        ensures after { entries self.new ≡ strike_items dot (entries self.old) };
 
     // Takes every entry out.
     fn clear(&mut self)
         ensures room { capacities self.new ≡ capacities self.old }
-        ensures after { entries self.new ≡ [] }
-        ensures stays { sound self.old → sound self.new };
+        ensures after { entries self.new ≡ [] };
 }

@@ -1,5 +1,5 @@
 // Why a store refuses a put.
-#[derive(Clone, Copy)]
+#[derive(Clone, Copy, Debug, PartialEq, Eq)]
 pub enum StoreFault {
     // No such part, or a place or dot that no entry has.
     Address,

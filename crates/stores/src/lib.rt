@@ -7,5 +7,6 @@ pub mod entries;
 pub mod faults;
 pub mod laws;
 pub mod order;
+pub mod part_entries;
 pub mod refusing;
 pub mod walks;

@@ -10,25 +10,19 @@ use stores::walks::copy_part;
 use tables::table::Table;
 
 // How many of these steps go as they should, in a book with room for two limits, one set of lines and no mark.
-fn walk_book(steps: &[Step]) -> usize {
-    let Some(limit) = Limit::read(7) else {
-        return 0;
-    };
-    let Some(lines) = Lines::read(7) else {
-        return 0;
-    };
-    let Some(mark) = Mark::read(0) else {
-        return 0;
-    };
+fn walk_book(steps: &[Step]) -> Result<usize, Fail> {
+    let limit = Limit::read(7).ok_or("a code that fits")?;
+    let lines = Lines::read(7).ok_or("a code that fits")?;
+    let mark = Mark::read(0).ok_or("a code that fits")?;
     let mut limits = [used_row(limit); 2];
     let mut sockets = [used_row(lines); 1];
     let mut marks = [used_row(mark); 0];
     let mut book = new_site_book(&mut limits, &mut sockets, &mut marks);
-    walk(&mut book, steps)
+    Ok(walk(&mut book, steps))
 }
 
 #[test]
-fn a_book_has_three_parts(rt: HostRuntime) {
+fn a_book_has_three_parts(rt: HostRuntime) -> Result<(), Fail> {
     const STEPS: [Step; 13] = [
         Step::Parts(3),
         Step::Capacity(0, 2),
@@ -44,11 +38,12 @@ fn a_book_has_three_parts(rt: HostRuntime) {
         Step::Unfit(3, 0),
         Step::All(0),
     ];
-    assert_eq!(rt; walk_book(&STEPS), 13);
+    assert_eq!(rt; walk_book(&STEPS)?, 13);
+    Ok(())
 }
 
 #[test]
-fn each_part_keeps_its_own(rt: HostRuntime) {
+fn each_part_keeps_its_own(rt: HostRuntime) -> Result<(), Fail> {
     const STEPS: [Step; 17] = [
         Step::Put(0, 2, 1, 160),
         Step::Put(1, 1, 2, 5),
@@ -68,11 +63,12 @@ fn each_part_keeps_its_own(rt: HostRuntime) {
         Step::Count(3, 0),
         Step::All(2),
     ];
-    assert_eq!(rt; walk_book(&STEPS), 17);
+    assert_eq!(rt; walk_book(&STEPS)?, 17);
+    Ok(())
 }
 
 #[test]
-fn a_full_part_is_named(rt: HostRuntime) {
+fn a_full_part_is_named(rt: HostRuntime) -> Result<(), Fail> {
     const STEPS: [Step; 11] = [
         Step::Put(0, 1, 1, 160),
         Step::Put(0, 2, 2, 160),
@@ -86,11 +82,12 @@ fn a_full_part_is_named(rt: HostRuntime) {
         Step::Put(1, 1, 3, 2),
         Step::Found(3, 1, 7),
     ];
-    assert_eq!(rt; walk_book(&STEPS), 11);
+    assert_eq!(rt; walk_book(&STEPS)?, 11);
+    Ok(())
 }
 
 #[test]
-fn a_dot_of_another_part_stays(rt: HostRuntime) {
+fn a_dot_of_another_part_stays(rt: HostRuntime) -> Result<(), Fail> {
     const STEPS: [Step; 12] = [
         Step::Put(0, 1, 1, 5),
         Step::Put(1, 1, 1, 5),
@@ -105,23 +102,15 @@ fn a_dot_of_another_part_stays(rt: HostRuntime) {
         Step::Clear,
         Step::All(0),
     ];
-    assert_eq!(rt; walk_book(&STEPS), 12);
+    assert_eq!(rt; walk_book(&STEPS)?, 12);
+    Ok(())
 }
 
 #[test]
 fn a_part_is_copied_into_a_table(rt: HostRuntime) -> Result<(), Fail> {
-    let Some(limit) = Limit::read(7) else {
-        assert!(rt; false);
-        return Ok(());
-    };
-    let Some(lines) = Lines::read(7) else {
-        assert!(rt; false);
-        return Ok(());
-    };
-    let Some(mark) = Mark::read(0) else {
-        assert!(rt; false);
-        return Ok(());
-    };
+    let limit = Limit::read(7).ok_or("a code that fits")?;
+    let lines = Lines::read(7).ok_or("a code that fits")?;
+    let mark = Mark::read(0).ok_or("a code that fits")?;
     let mut limits = [used_row(limit); 3];
     let mut sockets = [used_row(lines); 1];
     let mut marks = [used_row(mark); 1];

@@ -45,10 +45,7 @@ fn walk_ten(none: Entry<Mark>, steps: &[Step]) -> usize {
 
 #[test]
 fn parts_past_the_eighth_are_not_there(rt: HostRuntime) -> Result<(), Fail> {
-    let Some(mark) = <Mark as Kind>::read(0) else {
-        assert!(rt; false);
-        return Ok(());
-    };
+    let mark = <Mark as Kind>::read(0).ok_or("a code that fits")?;
     const STEPS: [Step; 16] = [
         Step::Parts(8),
         Step::Capacity(7, 1),
@@ -73,14 +70,8 @@ fn parts_past_the_eighth_are_not_there(rt: HostRuntime) -> Result<(), Fail> {
 
 #[test]
 fn a_pair_begins_empty(rt: HostRuntime) -> Result<(), Fail> {
-    let Some(limit) = Limit::read(7) else {
-        assert!(rt; false);
-        return Ok(());
-    };
-    let Some(mark) = <Mark as Kind>::read(0) else {
-        assert!(rt; false);
-        return Ok(());
-    };
+    let limit = Limit::read(7).ok_or("a code that fits")?;
+    let mark = <Mark as Kind>::read(0).ok_or("a code that fits")?;
     let mut first = [used_row(limit); 2];
     let mut second = [used_row(mark); 2];
     let mut limits = Table::new(&mut first);

@@ -1,6 +1,7 @@
 // Calls on any store, with what each should answer.
 use causal::dots::Dot;
 use causal::places::Place;
+use refusals::Refusal;
 use stores::dot_store::DotStore;
 use stores::entries::Entry;
 use stores::faults::StoreFault;
@@ -76,28 +77,23 @@ fn is_refused(answer: Result<(), StoreFault>, number: u8, place: u64) -> bool {
     let Err(fault) = answer else {
         return false;
     };
-    let refusal = fault.refusal();
+    let refusal = Refusal::from(fault);
     let layer = if number == 23 { 2 } else { 3 };
     refusal.number == number && refusal.layer == layer && refusal.place == place
 }
 
 fn is_entry(found: Option<Entry<u64>>, first: u16, counter: u16, code: u64) -> bool {
-    match found {
-        Some(entry) => entry.place.first == first
-            && entry.dot.counter == counter
-            && entry.value == code,
-        None => false,
-    }
+    found.is_some_and(|entry| {
+        entry.place.first == first && entry.dot.counter == counter && entry.value == code
+    })
 }
 
 fn is_found(found: Option<(usize, Entry<u64>)>, part: usize, code: u64) -> bool {
-    match found {
-        Some((other, entry)) => other == part && entry.value == code,
-        None => false,
-    }
+    found.is_some_and(|(other, entry)| other == part && entry.value == code)
 }
 
-// Takes the step, and says whether all was as it should be.
+// Takes the step, and says whether all was as it should be. Stays a `match`: a test lists its calls as data, and the answer of each call
+// is judged in its own way.
 fn goes<S: DotStore>(store: &mut S, step: Step) -> bool {
     match step {
         Step::Put(part, first, counter, code) => store
@@ -160,10 +156,8 @@ fn stands<S: DotStore>(store: &S, step: Step) -> bool {
 
 // How many steps go as they should, up to the first that does not.
 pub fn walk<S: DotStore>(store: &mut S, steps: &[Step]) -> usize {
-    for i in 0..steps.len() {
-        if !goes(store, steps[i]) {
-            return i;
-        }
-    }
-    steps.len()
+    steps
+        .iter()
+        .position(|step| !goes(store, *step))
+        .unwrap_or(steps.len())
 }

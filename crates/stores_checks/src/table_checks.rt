@@ -8,6 +8,7 @@ use kinds::lines::Lines;
 use kinds::mark::Mark;
 use std::test::Fail;
 use stores::entries::Entry;
+use stores::part_entries::entries_of;
 use tables::table::Table;
 
 // How many of these steps go as they should, in a fresh table of these rows.
@@ -18,10 +19,7 @@ fn walk_table<K: Kind>(rows: &mut [Entry<K>], steps: &[Step]) -> usize {
 
 #[test]
 fn a_fresh_table_is_empty(rt: HostRuntime) -> Result<(), Fail> {
-    let Some(limit) = Limit::read(7) else {
-        assert!(rt; false);
-        return Ok(());
-    };
+    let limit = Limit::read(7).ok_or("a code that fits")?;
     let mut rows = [used_row(limit); 3];
     const STEPS: [Step; 7] = [
         Step::Parts(1),
@@ -38,10 +36,7 @@ fn a_fresh_table_is_empty(rt: HostRuntime) -> Result<(), Fail> {
 
 #[test]
 fn limits_stand_in_order_and_the_smaller_is_kept(rt: HostRuntime) -> Result<(), Fail> {
-    let Some(limit) = Limit::read(7) else {
-        assert!(rt; false);
-        return Ok(());
-    };
+    let limit = Limit::read(7).ok_or("a code that fits")?;
     let mut rows = [used_row(limit); 4];
     const STEPS: [Step; 13] = [
         Step::Put(0, 12, 2, 160),
@@ -65,10 +60,7 @@ fn limits_stand_in_order_and_the_smaller_is_kept(rt: HostRuntime) -> Result<(), 
 
 #[test]
 fn equal_places_go_by_dots(rt: HostRuntime) -> Result<(), Fail> {
-    let Some(limit) = Limit::read(7) else {
-        assert!(rt; false);
-        return Ok(());
-    };
+    let limit = Limit::read(7).ok_or("a code that fits")?;
     let mut rows = [used_row(limit); 4];
     const PLACE: Place = Place {
         first: 12,
@@ -103,10 +95,7 @@ fn equal_places_go_by_dots(rt: HostRuntime) -> Result<(), Fail> {
 
 #[test]
 fn addresses_are_judged_before_codes(rt: HostRuntime) -> Result<(), Fail> {
-    let Some(limit) = Limit::read(7) else {
-        assert!(rt; false);
-        return Ok(());
-    };
+    let limit = Limit::read(7).ok_or("a code that fits")?;
     let mut rows = [used_row(limit); 2];
     const PLACE: Place = Place {
         first: 1,
@@ -172,10 +161,7 @@ fn addresses_are_judged_before_codes(rt: HostRuntime) -> Result<(), Fail> {
 
 #[test]
 fn a_full_table_still_joins(rt: HostRuntime) -> Result<(), Fail> {
-    let Some(limit) = Limit::read(7) else {
-        assert!(rt; false);
-        return Ok(());
-    };
+    let limit = Limit::read(7).ok_or("a code that fits")?;
     let mut rows = [used_row(limit); 1];
     const STEPS: [Step; 11] = [
         Step::Put(0, 1, 1, 160),
@@ -196,10 +182,7 @@ fn a_full_table_still_joins(rt: HostRuntime) -> Result<(), Fail> {
 
 #[test]
 fn a_table_of_no_rows_takes_nothing(rt: HostRuntime) -> Result<(), Fail> {
-    let Some(limit) = Limit::read(7) else {
-        assert!(rt; false);
-        return Ok(());
-    };
+    let limit = Limit::read(7).ok_or("a code that fits")?;
     let mut rows = [used_row(limit); 0];
     const STEPS: [Step; 4] = [
         Step::Capacity(0, 0),
@@ -213,10 +196,7 @@ fn a_table_of_no_rows_takes_nothing(rt: HostRuntime) -> Result<(), Fail> {
 
 #[test]
 fn strikes_take_one_dot_out(rt: HostRuntime) -> Result<(), Fail> {
-    let Some(limit) = Limit::read(7) else {
-        assert!(rt; false);
-        return Ok(());
-    };
+    let limit = Limit::read(7).ok_or("a code that fits")?;
     let mut rows = [used_row(limit); 3];
     const STEPS: [Step; 13] = [
         Step::Put(0, 1, 1, 10),
@@ -239,10 +219,7 @@ fn strikes_take_one_dot_out(rt: HostRuntime) -> Result<(), Fail> {
 
 #[test]
 fn rows_past_the_entries_stay(rt: HostRuntime) -> Result<(), Fail> {
-    let Some(limit) = Limit::read(7) else {
-        assert!(rt; false);
-        return Ok(());
-    };
+    let limit = Limit::read(7).ok_or("a code that fits")?;
     let mut rows = [used_row(limit); 3];
     const STEPS: [Step; 1] = [Step::Put(0, 1, 1, 10)];
     assert_eq!(rt; walk_table(&mut rows, &STEPS), 1);
@@ -257,10 +234,7 @@ fn rows_past_the_entries_stay(rt: HostRuntime) -> Result<(), Fail> {
 
 #[test]
 fn lines_join_to_all_that_either_has(rt: HostRuntime) -> Result<(), Fail> {
-    let Some(lines) = Lines::read(7) else {
-        assert!(rt; false);
-        return Ok(());
-    };
+    let lines = Lines::read(7).ok_or("a code that fits")?;
     let mut rows = [used_row(lines); 2];
     const STEPS: [Step; 7] = [
         Step::Put(0, 1, 1, 1),
@@ -277,10 +251,7 @@ fn lines_join_to_all_that_either_has(rt: HostRuntime) -> Result<(), Fail> {
 
 #[test]
 fn marks_have_the_code_0_alone(rt: HostRuntime) -> Result<(), Fail> {
-    let Some(mark) = Mark::read(0) else {
-        assert!(rt; false);
-        return Ok(());
-    };
+    let mark = Mark::read(0).ok_or("a code that fits")?;
     let mut rows = [used_row(mark); 2];
     const STEPS: [Step; 5] = [
         Step::Put(0, 1, 1, 0),
@@ -294,11 +265,22 @@ fn marks_have_the_code_0_alone(rt: HostRuntime) -> Result<(), Fail> {
 }
 
 #[test]
+fn entries_come_in_order(rt: HostRuntime) -> Result<(), Fail> {
+    let limit = Limit::read(7).ok_or("a code that fits")?;
+    let mut rows = [used_row(limit); 3];
+    let mut table = Table::new(&mut rows);
+    const PUTS: [Step; 2] = [Step::Put(0, 12, 2, 160), Step::Put(0, 5, 3, 4000)];
+    assert_eq!(rt; walk(&mut table, &PUTS), 2);
+    let mut codes = entries_of(&table, 0).map(|entry| entry.value);
+    assert_eq!(rt; codes.next(), Some(4000));
+    assert_eq!(rt; codes.next(), Some(160));
+    assert_eq!(rt; codes.next(), None);
+    Ok(())
+}
+
+#[test]
 fn walks_count_a_table(rt: HostRuntime) -> Result<(), Fail> {
-    let Some(limit) = Limit::read(7) else {
-        assert!(rt; false);
-        return Ok(());
-    };
+    let limit = Limit::read(7).ok_or("a code that fits")?;
     let mut rows = [used_row(limit); 3];
     const SOCKET: Place = Place {
         first: 2,

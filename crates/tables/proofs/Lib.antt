@@ -3,3 +3,4 @@ pub mod Shift
 pub mod Found
 pub mod RowLaws
 pub mod TableLaws
+pub mod Putting

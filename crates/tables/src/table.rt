@@ -1,21 +1,24 @@
 // A store of one part, over rows that its owner lends.
-ghost use Rattle.std.specs.Prelude.{◌≡◌, [], ◌∷◌, length, take, refl};
-ghost use Rattle.std.proofs.Common.{lit≤};
-ghost use Rattle.tables.specs.Rows.{items, usable, SoundRows, one_part, one_roomy};
+ghost use Rattle.std.specs.Prelude.{◌≡◌, ◌≤◌, [], ◌∷◌, length, take};
+ghost use Rattle.stores.specs.Sound.{Orderly, Orderly-prop};
+ghost use Rattle.tables.specs.Rows.{items, usable, one_part, one_roomy};
 
-use crate::table_rows::{find_row, put_row, row_at, strike_row, usable_rows};
+use crate::rows::{insert_at, position, remove_at, seek};
+use crate::table_rows::{find_row, join_at, row_at};
 use causal::dots::Dot;
 use kinds::kind::Kind;
 use stores::address::is_entry_address;
-use stores::dot_store::DotStore;
+use stores::dot_store::{DotStore, MOST_ENTRIES};
 use stores::entries::Entry;
 use stores::faults::StoreFault;
 
-// Entries of one kind, in the first `len` rows, in order.
+// Entries of one kind, in the first `len` rows, in order. Stays as rows with a count: the memory is lent, and has room past those in use.
 #[derive(Drop)]
-pub struct Table<'a, K> {
+pub struct Table<'a, K: Kind> {
     rows: &'a mut [Entry<K>],
     len: usize,
+    ghost within: { len ≤ length rows.now },
+    ghost orderly: { Orderly (K.Kind.kind ∷ []) (usable (length rows.now) ∷ []) (items K.Kind.code (take len rows.now)) } by { Orderly-prop },
 }
 
 impl<'a, K: Kind> Table<'a, K> {
@@ -23,9 +26,15 @@ impl<'a, K: Kind> Table<'a, K> {
     pub fn new(rows: &'a mut [Entry<K>]) -> Self
         ensures empty { result.len ≡ 0 }
         ensures rows { result.rows.now ≡ rows.old }
-        ensures sound { SoundRows K.Kind.kind K.Kind.code result.len result.rows.now }
     {
         Table { rows, len: 0 }
+    }
+
+    // The rows in use.
+    fn used(&self) -> &[Entry<K>]
+        ensures { result.now ≡ take self.now.len self.now.rows.now }
+    {
+        &self.rows[..self.len]
     }
 }
 
@@ -40,9 +49,7 @@ impl<'a, K: Kind> DotStore for Table<'a, K> {
 
     ghost entries = { λ t. items K.Kind.code (take t.len t.rows.now) };
 
-    ghost sound = { λ t. SoundRows K.Kind.kind K.Kind.code t.len t.rows.now };
-
-    ghost orderly = { λ _ h. h.orderly };
+    ghost orderly = { λ t. t.orderly };
 
     fn part_count() -> usize {
         1
@@ -58,62 +65,51 @@ impl<'a, K: Kind> DotStore for Table<'a, K> {
 
     fn capacity(&self, part: usize) -> usize {
         if part == 0 {
-            usable_rows(self.rows.len())
+            self.rows.len().min(MOST_ENTRIES)
         } else {
             0
         }
     }
 
     fn entry(&self, part: usize, position: usize) -> Option<Entry<u64>> {
-        if self.rows.len() < self.len {
-            return None;
-        }
         if part != 0 {
             return None;
         }
-        row_at(&self.rows[0..self.len], position)
+        row_at(self.used(), position)
     }
 
     fn find(&self, dot: Dot) -> Option<(usize, Entry<u64>)> {
-        if self.len > self.rows.len() {
-            return None;
-        }
-        match find_row(&self.rows[0..self.len], dot) {
-            Some(entry) => Some((0, entry)),
-            None => None,
-        }
+        find_row(self.used(), dot).map(|entry| (0, entry))
     }
 
     fn put(&mut self, part: usize, entry: Entry<u64>) -> Result<(), StoreFault> {
+        // Judged here and not by `check`, which would read the code once more.
         if part != 0 || !is_entry_address(entry.place, entry.dot) {
             return Err(StoreFault::Address);
         }
-        let Some(value) = K::read(entry.value) else {
-            return Err(StoreFault::Unfit);
-        };
-        if self.len > self.rows.len() {
-            return Err(StoreFault::Full(0));
-        }
+        let value = K::read(entry.value).ok_or(StoreFault::Unfit)?;
         let row = Entry {
             place: entry.place,
             dot: entry.dot,
             value,
         };
-        let used = self.len;
-        match put_row(self.rows, used, row) {
-            Some(len) => {
-                self.len = len;
-                Ok(())
-            }
-            None => Err(StoreFault::Full(0)),
+        if let Some(found) = seek(self.used(), row.dot) {
+            join_at(self.rows, found, row);
+            return Ok(());
         }
+        if self.len >= self.capacity(0) {
+            return Err(StoreFault::Full(0));
+        }
+        let at = position(self.used(), row.place, row.dot);
+        insert_at(self.rows, self.len, at, row);
+        self.len += 1;
+        Ok(())
     }
 
     fn strike(&mut self, dot: Dot) {
-        if self.len <= self.rows.len() {
-            let used = self.len;
-            let left = strike_row(self.rows, used, dot);
-            self.len = left;
+        if let Some(found) = seek(self.used(), dot) {
+            remove_at(self.rows, self.len, found);
+            self.len -= 1;
         }
     }
 

@@ -1,13 +1,15 @@
-use Rattle.std.proofs.Common.{◌≡◌, drop, filter}
-use Rattle.stores.specs.Items.{in_part}
-use Rattle.stores.specs.Walks.{put_each}
+use Rattle.std.proofs.Common.{◌≡◌}
+use Rattle.stores.specs.PartEntries.{entries_left}
+use Rattle.stores.specs.Walks.{entries_in}
+use Rattle.stores.proofs.Walking.{put_all}
 use Rattle.stores.proofs.walks.copy_part.Given as goal
 
-abbrev pub invariant-loop-i : goal.invariant-loop-i
-invariant-loop-i g l =
+abbrev pub invariant-loop-entry : goal.invariant-loop-entry
+invariant-loop-entry g l =
     let S = g.S.DotStore in
     let R = g.R.DotStore in
     let old = l.initial.into in
-    let ys = filter (in_part l.part) (R.entries l.from) in
-    S.sound old → (S.sound l.into) × (S.capacities l.into ≡ S.capacities old)
-    × (R.sound l.from → put_each S.kinds (S.capacities old) l.part (S.entries l.into) (drop l.i ys) ≡ put_each S.kinds (S.capacities old) l.part (S.entries old) ys)
+    let all = put_all S.kinds (S.capacities old) l.part in record {
+      room : S.capacities l.into ≡ S.capacities old;
+      rest : all (S.entries l.into) (entries_left R.entries l.entry-iterator) ≡ all (S.entries old) (entries_in l.part (R.entries l.from));
+    }

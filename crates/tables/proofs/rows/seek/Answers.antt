@@ -1,15 +1,14 @@
-use Rattle.std.proofs.Common.{not, sym, ap, ◌∙◌, arith}
-use Rattle.tables.specs.Rows.{other}
-use Rattle.tables.proofs.Lead.{lead_more, lead_stop, lead_end}
+use Rattle.std.proofs.Common.{◌∙◌, rules, tests}
+use Rattle.std.proofs.lemmas.Iterator.{YieldsList-from_slice}
+use Rattle.std.proofs.lemmas.Iterator.Search.{position_from_yields_List}
+use Rattle.causal.specs.Dots.{same_dot}
+use Rattle.tables.proofs.Lead.{first_is}
 use Rattle.tables.proofs.rows.seek.Goals as goal
 
-pub returns-then-dots_equal : goal.returns-then-dots_equal
-returns-then-dots_equal g c =
-    omega (arith, lead_stop (other c.args.dot) c.args.rows.now c.loop-i.i c.index-rows-i.result c.loop-i-test.true c.index-rows-i.is (ap not (sym c.dots_equal.ensures ∙ c.if-dots_equal.true)))
-
-pub loop-i-preserved : goal.loop-i-preserved
-loop-i-preserved g c =
-    omega (arith, lead_more (other c.args.dot) c.args.rows.now c.loop-i.i c.index-rows-i.result c.loop-i-test.true c.index-rows-i.is (ap not (sym c.dots_equal.ensures ∙ c.if-dots_equal.false)))
-
 pub returns : goal.returns
-returns g c = omega (arith, lead_end (other c.args.dot) c.args.rows.now c.loop-i.i c.loop-i-test.false)
+unfolding same_dot
+returns g c =
+    let rows = c.args.rows.now in
+    let d = c.args.dot in
+    position_from_yields_List (λ r. same_dot r.dot d) _ _ c.position.result c.position.ensures.ran (YieldsList-from_slice rows (cc)) (λ x b q k. search (rules, tests))
+    ∙ first_is (λ r. same_dot r.dot d) rows

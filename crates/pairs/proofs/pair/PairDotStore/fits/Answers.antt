@@ -1,14 +1,7 @@
 use Rattle.std.proofs.Common.{◌≡◌, ◌-◌, length, sym, ap, ◌∙◌, arith}
 use Rattle.stores.specs.Puts.{fits_part, fits_kind}
-use Rattle.pairs.proofs.PairLaws.{nth_low, nth_high}
+use Rattle.pairs.proofs.PairLaws.{nth_high}
 use Rattle.pairs.proofs.pair.PairDotStore.fits.Goals as goal
-
-pub returns-then-part-parts : goal.returns-then-part-parts
-returns-then-part-parts g c =
-    let ka = g.A.DotStore.kinds in
-    let kb = g.B.DotStore.kinds in
-    let n : c.part_count-parts.result ≡ length ka = c.part_count-parts.ensures in
-    c.fits.ensures ∙ ap (λ o. fits_kind o c.args.code) (sym (nth_low ka kb c.args.part g.A.DotStore.parts.few (omega arith)))
 
 pub returns : goal.returns
 returns g c =

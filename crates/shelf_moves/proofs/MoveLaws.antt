@@ -1,7 +1,7 @@
 -- Parcels moved one after another.
-use Rattle.std.proofs.Common.{◌≡◌, ℕ, zero, suc, ◌+◌, ◌<◌, ◌≤◌, true, false, List, [], ◌∷◌, ◌++◌, length, take, drop, sym, refl, ap, ◌∙◌, arith}
+use Rattle.std.proofs.Common.{◌≡◌, ℕ, zero, suc, ◌+◌, ◌<◌, Bool, true, false, List, [], ◌∷◌, ◌++◌, length, take, drop, sym, refl, ap, ◌∙◌, arith}
 use Rattle.std.specs.List.{slice_get}
-use Rattle.std.proofs.lemmas.List.{append_assoc, append-nil, drop-drop, take_all, drop_all}
+use Rattle.std.proofs.lemmas.List.{append_assoc, drop-drop}
 use Rattle.std.proofs.lemmas.Bool.{cond-true, cond-false}
 use Rattle.shelves.specs.Parcels.{Sizes, copy_memory}
 use Rattle.shelf_moves.specs.Moves.{passes, first_passes, movable, copied_each, MovedOn}
@@ -32,15 +32,17 @@ pub record OnTheWay (z : Sizes) (ps qs : List (List ℕ)) (m : List ℕ) (i : �
   pub memory_is : then ≡ copied_each (take i ps) m
   pub still : i + movable z (length m) onto left ≡ movable z (length m) qs ps
 
-pub way_none : (z : Sizes) (ps qs : List (List ℕ)) (m : List ℕ) → OnTheWay z ps qs m 0 ps qs m
-way_none z ps qs m = record { left_is = refl; onto_is = sym (append-nil qs); memory_is = refl; still = omega arith }
+-- whether the next one is moved, by the numbers that are known then
+way_passes : (b : Bool) (z y : Sizes) (size k : ℕ) (onto left : List (List ℕ)) → y ≡ z → k ≡ size → b ≡ first_passes y k onto left → first_passes z size onto left ≡ b
+way_passes b z y size k onto left u v e = sym (e ∙ ap (λ x. first_passes x k onto left) u ∙ ap (λ x. first_passes z x onto left) v)
 
-pub way_more : (z : Sizes) (ps qs : List (List ℕ)) (m : List ℕ) (i : ℕ) (left onto : List (List ℕ)) (then : List ℕ) (left' onto' : List (List ℕ)) (then' : List ℕ) → i < length ps
-    → OnTheWay z ps qs m i left onto then → first_passes z (length m) onto left ≡ true → left' ≡ drop 1 left → onto' ≡ onto ++ take 1 left → then' ≡ copy_memory (slice_get left 0) then
+pub way_more : (z y : Sizes) (ps qs : List (List ℕ)) (m : List ℕ) (i : ℕ) (left onto : List (List ℕ)) (then : List ℕ) (left' onto' : List (List ℕ)) (then' : List ℕ) → i < length ps
+    → OnTheWay z ps qs m i left onto then → y ≡ z → length then ≡ length m → true ≡ first_passes y (length then) onto left
+    → left' ≡ drop 1 left → onto' ≡ onto ++ take 1 left → then' ≡ copy_memory (slice_get left 0) then
     → OnTheWay z ps qs m (i + 1) left' onto' then'
-way_more z ps qs m i left onto then left' onto' then' h w e l o t =
+way_more z y ps qs m i left onto then left' onto' then' h w u v e l o t =
     let next : suc i ≡ i + 1 = omega arith in
-    let step = movable_step z (length m) onto left e in
+    let step = movable_step z (length m) onto left (way_passes true z y (length m) (length then) onto left u v e) in
     let same : movable z (length m) onto' left' ≡ movable z (length m) (onto ++ take 1 left) (drop 1 left) = ap (λ xs. movable z (length m) xs left') o ∙ ap (movable z (length m) (onto ++ take 1 left)) l in
     let still = w.still in
     record {
@@ -52,34 +54,17 @@ way_more z ps qs m i left onto then left' onto' then' h w e l o t =
     }
 
 -- it stops at a parcel that does not fit
-pub way_stops : (S T : Type 0) (z : Sizes) (ps qs : List (List ℕ)) (m : List ℕ) (i : ℕ) (left onto : List (List ℕ)) (then : List ℕ) (left' onto' : List (List ℕ)) (then' : List ℕ) → i < length ps
-    → OnTheWay z ps qs m i left onto then → first_passes z (length m) onto left ≡ false → left' ≡ left → onto' ≡ onto → then' ≡ copy_memory (slice_get left 0) then → S → T
-    → MovedOn S T z ps qs m i left' onto' then'
-way_stops S T z ps qs m i left onto then left' onto' then' h w e l o t s r =
+pub way_stops : (z y : Sizes) (ps qs : List (List ℕ)) (m : List ℕ) (i : ℕ) (left onto : List (List ℕ)) (then : List ℕ) (left' onto' : List (List ℕ)) (then' : List ℕ) → i < length ps
+    → OnTheWay z ps qs m i left onto then → y ≡ z → length then ≡ length m → false ≡ first_passes y (length then) onto left
+    → left' ≡ left → onto' ≡ onto → then' ≡ copy_memory (slice_get left 0) then
+    → MovedOn z ps qs m i left' onto' then'
+way_stops z y ps qs m i left onto then left' onto' then' h w u v e l o t =
     let next : suc i ≡ i + 1 = omega arith in
-    let stop = movable_stop z (length m) onto left e in
+    let stop = movable_stop z (length m) onto left (way_passes false z y (length m) (length then) onto left u v e) in
     let still = w.still in
     record {
       count_is = omega arith;
       left_is = l ∙ w.left_is;
       onto_is = o ∙ w.onto_is;
       memory_is = t ∙ ap (λ xs. copy_memory (slice_get xs 0) then) w.left_is ∙ ap (copy_memory (slice_get (drop i ps) 0)) w.memory_is ∙ sym (copied_more ps i m h) ∙ ap (λ k. copied_each (take k ps) m) next;
-      from_stays = s;
-      to_stays = r;
-    }
-
--- or at the end
-pub way_ends : (S T : Type 0) (z : Sizes) (ps qs : List (List ℕ)) (m : List ℕ) (i count : ℕ) (left onto : List (List ℕ)) (then : List ℕ) → i ≡ count → length ps ≤ count
-    → OnTheWay z ps qs m i left onto then → S → T → MovedOn S T z ps qs m count left onto then
-way_ends S T z ps qs m i count left onto then ic h w s r =
-    let none : left ≡ [] = w.left_is ∙ drop_all i ps (omega arith) in
-    let stop : movable z (length m) onto left ≡ 0 = ap (movable z (length m) onto) none in
-    let still = w.still in
-    record {
-      count_is = omega arith;
-      left_is = w.left_is ∙ ap (λ k. drop k ps) ic;
-      onto_is = w.onto_is ∙ ap (λ k. qs ++ take k ps) ic;
-      memory_is = w.memory_is ∙ ap (λ xs. copied_each xs m) (take_all i ps (omega arith) ∙ sym (take_all (count + 1) ps (omega arith)));
-      from_stays = s;
-      to_stays = r;
     }

@@ -24,14 +24,12 @@ copied_each [] memory = memory
 copied_each (p ∷ ps) memory = copied_each ps (copy_memory (Some p) memory)
 
 -- what became of two shelves and of the memory, when `count` parcels were moved: `left` is then on the one and `onto` on the other
-pub record MovedOn (sound_from sound_to : Type 0) (z : Sizes) (from to : List (List ℕ)) (memory : List ℕ) (count : ℕ) (left onto : List (List ℕ)) (then : List ℕ) : Type 0 where
+pub record MovedOn (z : Sizes) (from to : List (List ℕ)) (memory : List ℕ) (count : ℕ) (left onto : List (List ℕ)) (then : List ℕ) : Type 0 where
   pub count_is : count ≡ movable z (length memory) to from
   pub left_is : left ≡ drop count from
   pub onto_is : onto ≡ to ++ take count from
   -- each moved parcel passed through the memory, and the next one, if any, was tried
   pub memory_is : then ≡ copied_each (take (count + 1) from) memory
-  pub from_stays : sound_from
-  pub to_stays : sound_to
 
 -- a parcel appended, where nothing was refused, and copied back into `size` bytes: what is answered
 abbrev pub append_and_copy_answer : Option Refusal → List ℕ → ℕ → Result ℕ Refusal

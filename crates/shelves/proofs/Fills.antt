@@ -1,8 +1,8 @@
 -- Loops that fill memory from the left.
-use Rattle.std.proofs.Common.{◌≡◌, ℕ, suc, ◌+◌, ◌-◌, ◌<◌, ◌≤◌, List, [], ◌∷◌, ◌++◌, map, length, get_or, drop, set, sym, refl, ap, ◌∙◌, arith}
+use Rattle.std.proofs.Common.{◌≡◌, ℕ, suc, ◌+◌, ◌-◌, ◌<◌, List, [], ◌∷◌, ◌++◌, map, length, get_or, drop, set, sym, refl, ap, ◌∙◌, arith}
 use Rattle.std.specs.List.{range_with_len}
-use Rattle.std.proofs.lemmas.List.{drop_more, set_at, append_assoc, drop_all}
-use Rattle.shelves.specs.Layout.{turn, byte, laid, slid}
+use Rattle.std.proofs.lemmas.List.{drop_more, set_at, append_assoc}
+use Rattle.shelves.specs.Layout.{turn, byte, slid}
 use Rattle.std.proofs.lemmas.List.FromFn.{map-range_with_len_more, length-map-range_with_len}
 
 pub fill_by_one : (f : ℕ → ℕ) (from i b : ℕ) (m : List ℕ) → i < length m → b ≡ f (from + i)
@@ -13,18 +13,6 @@ fill_by_one f from i b m h e =
     ∙ ap (λ z. map f (range_with_len from i) ++ z ∷ drop (i + 1) m) e
     ∙ sym (append_assoc (map f (range_with_len from i)) (f (from + i) ∷ []) (drop (i + 1) m))
     ∙ ap (λ zs. zs ++ drop (i + 1) m) (sym (map-range_with_len_more f from i (from + i) refl))
-
--- one byte more of what is written
-pub laid_more : (bytes : List ℕ) (room start from i b : ℕ) (news : List ℕ) → i < length news → b ≡ get_or news i 0
-    → laid (set bytes (turn room start (from + i)) b) room start (from + (i + 1)) (drop (i + 1) news) ≡ laid bytes room start (from + i) (drop i news)
-laid_more bytes room start from i b news h e =
-    let next : from + (i + 1) ≡ from + i + 1 = omega arith in
-    ap (λ at. laid (set bytes (turn room start (from + i)) b) room start at (drop (i + 1) news)) next
-    ∙ ap (λ c. laid (set bytes (turn room start (from + i)) c) room start (from + i + 1) (drop (i + 1) news)) e
-    ∙ ap (laid bytes room start (from + i)) (sym (drop_more news i 0 h))
-
-pub laid_all : (bytes : List ℕ) (room start from i : ℕ) (news : List ℕ) → length news ≤ i → laid bytes room start from (drop i news) ≡ bytes
-laid_all bytes room start from i news h = ap (laid bytes room start from) (drop_all i news h)
 
 -- one byte more moved down
 pub slid_more : (bytes : List ℕ) (room start at gap i count b : ℕ) → i < count → b ≡ byte bytes room start (at + i + gap)

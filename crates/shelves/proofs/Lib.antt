@@ -2,9 +2,9 @@ pub mod Turns
 pub mod Fills
 pub mod ReadLaws
 pub mod Pieces
-pub mod Placed
 pub mod Written
 pub mod Stocks
+pub mod Placed
 pub mod Sent
 pub mod RingLaws
 pub mod RingCalls

@@ -1,38 +1,26 @@
 -- What a ring's calls leave.
-use Rattle.std.proofs.Common.{◌≡◌, ℕ, ◌+◌, ◌-◌, ◌*◌, ◌/◌, ◌^◌, ◌<◌, ◌≤◌, min, cond, ltb, List, [], ◌∷◌, ◌++◌, map, length, get_or, take, set, sum, sym, ap, ◌∙◌, subst, arith}
+use Rattle.std.proofs.Common.{◌≡◌, ℕ, ◌+◌, ◌-◌, ◌*◌, ◌<◌, ◌≤◌, cond, ltb, List, [], ◌∷◌, ◌++◌, map, length, get_or, take, set, sum, sym, ap, ◌∙◌, subst, arith}
 use Rattle.std.specs.List.{range_with_len, remove}
-use Rattle.std.proofs.lemmas.List.{length-take-le, take-take, get_or-take, take_more_set}
+use Rattle.std.proofs.lemmas.List.{length-take-le, take_more_set}
 use Rattle.std.proofs.lemmas.Bool.{cond-true, cond-false, lt-ltb, le-ltb}
-use Rattle.shelves.specs.Layout.{byte, pieces, laid, source}
-use Rattle.shelves.specs.Parcels.{Within, held, misfit}
+use Rattle.shelves.specs.Layout.{byte, pieces, laid}
+use Rattle.shelves.specs.Parcels.{Within, held}
 use Rattle.shelves.specs.Rings.{ring_sizes, ring_room, ring_parcels, SoundRing}
 use Rattle.shelves.proofs.Pieces.{length_pieces, lengths_of_pieces, pieces_same, pieces_push, pieces_removed}
 use Rattle.shelves.proofs.Written.{length_laid, laid_before, laid_there}
-use Rattle.shelves.proofs.Sent.{sent_removed}
 use Rattle.shelves.proofs.Placed.{sum_upto}
 use Rattle.shelves.proofs.Stocks.{sum_held}
 
 pub ring_count : (bytes : List ℕ) (start : ℕ) (lengths : List ℕ) (count : ℕ) → count ≤ length lengths → length (ring_parcels bytes start lengths count) ≡ count
 ring_count bytes start lengths count h = length_pieces (byte bytes (ring_room (length bytes)) start) 0 (take count lengths) ∙ length-take-le count lengths h
 
--- the bytes that a sound ring uses
+-- the bytes that a ring uses
 pub ring_sum : (bytes : List ℕ) (start : ℕ) (lengths : List ℕ) (count : ℕ) → SoundRing bytes start lengths count → sum (take count lengths) ≡ 24 * held (ring_parcels bytes start lengths count)
 ring_sum bytes start lengths count s =
     ap sum (sym (lengths_of_pieces (byte bytes (ring_room (length bytes)) start) 0 (take count lengths))) ∙ sum_held (ring_parcels bytes start lengths count) s.within.whole
 
 pub ring_fits : (bytes : List ℕ) (start : ℕ) (lengths : List ℕ) (count : ℕ) → SoundRing bytes start lengths count → sum (take count lengths) ≤ ring_room (length bytes)
 ring_fits bytes start lengths count s = omega (arith, ring_sum bytes start lengths count s, s.within.held)
-
--- the records that the code counts are those that are held
-pub ring_used : (bytes : List ℕ) (start : ℕ) (lengths : List ℕ) (count used : ℕ) → SoundRing bytes start lengths count → length bytes < 2 ^ 64
-    → used ≡ min (sum (take count lengths)) (2 ^ 64 - 1) / 24 → used ≡ held (ring_parcels bytes start lengths count)
-ring_used bytes start lengths count used s h e = omega (arith, ring_sum bytes start lengths count s, s.within.held)
-
-pub ring_refusal : (bytes : List ℕ) (start : ℕ) (lengths : List ℕ) (count used n : ℕ) → SoundRing bytes start lengths count → used ≡ held (ring_parcels bytes start lengths count)
-    → misfit (ring_sizes (length bytes)) count used n ≡ misfit (ring_sizes (length bytes)) (length (ring_parcels bytes start lengths count)) (held (ring_parcels bytes start lengths count)) n
-ring_refusal bytes start lengths count used n s e =
-    ap (λ k. misfit (ring_sizes (length bytes)) k used n) (sym (ring_count bytes start lengths count s.listed))
-    ∙ ap (λ k. misfit (ring_sizes (length bytes)) (length (ring_parcels bytes start lengths count)) k n) e
 
 -- the parcels after a write past those in use
 pub ring_appended : (bytes after : List ℕ) (start : ℕ) (lengths : List ℕ) (count : ℕ) (news : List ℕ) → start ≤ ring_room (length bytes) → count < length lengths
@@ -65,22 +53,16 @@ sound_by bytes after start lengths count ps n s l e w =
     }
 
 -- the parcels after the place of one is closed up
-pub ring_removed : (bytes after : List ℕ) (start begins : ℕ) (lengths ls : List ℕ) (count at : ℕ) → length after ≡ length bytes → at < count → count ≤ length lengths → length ls ≡ length lengths
-    → ((i : ℕ) → get_or ls i 0 ≡ get_or lengths (source at (count - 1) i) 0)
-    → ((i : ℕ) → i < sum (take count lengths) - get_or lengths at 0
-    → byte after (ring_room (length bytes)) begins i ≡ byte bytes (ring_room (length bytes)) start (cond (ltb i (sum (take at lengths))) i (i + get_or lengths at 0)))
-    → ring_parcels after begins ls (count - 1) ≡ remove (ring_parcels bytes start lengths count) at
-ring_removed bytes after start begins lengths ls count at n h l m sent moved =
+pub ring_removed : (bytes after : List ℕ) (start begins : ℕ) (ls : List ℕ) (at : ℕ) → length after ≡ length bytes → at < length ls
+    → ((i : ℕ) → i < sum ls - get_or ls at 0
+    → byte after (ring_room (length bytes)) begins i ≡ byte bytes (ring_room (length bytes)) start (cond (ltb i (sum (take at ls))) i (i + get_or ls at 0)))
+    → pieces (byte after (ring_room (length after)) begins) 0 (remove ls at) ≡ remove (pieces (byte bytes (ring_room (length bytes)) start) 0 ls) at
+ring_removed bytes after start begins ls at n h moved =
     let room = ring_room (length bytes) in
-    let xs = take count lengths in
     let f = byte bytes room start in
     let g = byte after room begins in
-    let t : sum (take at xs) ≡ sum (take at lengths) = ap sum (take-take at count lengths (omega arith)) in
-    let d : get_or xs at 0 ≡ get_or lengths at 0 = get_or-take count lengths at 0 h in
-    let u = sum_upto lengths count at h l in
-    let k = length-take-le count lengths l in
-    ap (λ j. pieces (byte after (ring_room j) begins) 0 (take (count - 1) ls)) n
-    ∙ ap (pieces g 0) (sent_removed lengths ls at count h l m sent)
-    ∙ pieces_removed f g 0 xs at (omega arith)
-    (λ i _ q. moved i (omega arith) ∙ ap f (cond-true _ _ _ (lt-ltb i (sum (take at lengths)) (omega arith))))
-    (λ i p q. moved i (omega arith) ∙ ap f (cond-false _ _ _ (le-ltb i (sum (take at lengths)) (omega arith)) ∙ ap (λ y. i + y) (sym d)))
+    let u = sum_upto ls at h in
+    ap (λ j. pieces (byte after (ring_room j) begins) 0 (remove ls at)) n
+    ∙ pieces_removed f g 0 ls at h
+    (λ i _ q. moved i (omega arith) ∙ ap f (cond-true _ _ _ (lt-ltb i (sum (take at ls)) (omega arith))))
+    (λ i p q. moved i (omega arith) ∙ ap f (cond-false _ _ _ (le-ltb i (sum (take at ls)) (omega arith))))

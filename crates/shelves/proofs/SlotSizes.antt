@@ -1,10 +1,10 @@
 -- How many slots there are, and where they lie.
-use Rattle.std.proofs.Common.{◌≡◌, ℕ, ◌+◌, ◌*◌, ◌/◌, ◌<◌, ◌≤◌, min, List, length, get_or, set, sym, ap, ◌∙◌, inl, inr, ⊎_elim, mul-le-mul_right, suc-mul, div-mul-le_self, arith}
+use Rattle.std.proofs.Common.{◌≡◌, ℕ, ◌+◌, ◌*◌, ◌/◌, ◌<◌, ◌≤◌, min, List, ◌++◌, length, get_or, set, sym, ap, ◌∙◌, ⊎_elim, mul-le-mul_right, suc-mul, div-mul-le_self, arith}
 use native.Mathlib.Nat.{div-div-eq-div-mul}
-use Rattle.std.proofs.lemmas.List.{get_or-set_same, get_or-set_other}
+use Rattle.std.proofs.lemmas.List.{map-set, map-append, get_or_append_left, length-map, get_or-set_same, get_or-set_other}
 use Rattle.std.proofs.lemmas.Bool.{cases_order, cases_eq}
-use Rattle.shelves.specs.Parcels.{misfit}
-use Rattle.shelves.specs.Slotted.{slot_size, slot_count, slot_sizes, slot_room, Disjoint}
+use Rattle.shelves.specs.declared.extent.Extent.{Extent}
+use Rattle.shelves.specs.Slotted.{slot_size, slot_count, slot_room, slot_starts, Disjoint}
 
 pub count_is : (n size k m : ℕ) → k ≡ slot_size size → m ≡ min (n / 24 / k) 128 → m ≡ slot_count n size
 count_is n size k m e f =
@@ -34,19 +34,21 @@ laid_out starts m k e =
     record {
       inside = λ i h. let a = e i h in let b = slot_ends i m k h in omega arith;
       apart = λ i j h l ne. let a = e i h in let b = e j l in
-          ⊎_elim (λ z. absurd (ne z)) (⊎_elim (λ lt. inl (let q = slot_ends i j k lt in omega arith)) (λ gt. inr (let q = slot_ends j i k gt in omega arith))) (cases_order i j);
+          ⊎_elim (λ z. absurd (ne z)) (⊎_elim (λ lt. let q = slot_ends i j k lt in omega arith) (λ gt. let q = slot_ends j i k gt in omega arith)) (cases_order i j);
     }
 
 -- one slot more
-pub lay_more : (starts : List ℕ) (i k : ℕ) → i < length starts → ((j : ℕ) → j < i → get_or starts j 0 ≡ 24 * (j * k)) → (j : ℕ) → j < i + 1 → get_or (set starts i (24 * (i * k))) j 0 ≡ 24 * (j * k)
-lay_more starts i k h below j l =
-    ⊎_elim (λ z. ap (λ x. get_or (set starts i (24 * (i * k))) x 0) z ∙ get_or-set_same starts i (24 * (i * k)) 0 h ∙ ap (λ x. 24 * (x * k)) (sym z))
-    (λ ne. get_or-set_other starts i j (24 * (i * k)) 0 ne ∙ below j (omega arith)) (cases_eq j i)
+pub lay_more : (slots : List Extent) (e : Extent) (i k : ℕ) → i < length slots → e.from ≡ 24 * (i * k) → ((j : ℕ) → j < i → get_or (slot_starts slots) j 0 ≡ 24 * (j * k))
+    → (j : ℕ) → j < i + 1 → get_or (slot_starts (set slots i e)) j 0 ≡ 24 * (j * k)
+lay_more slots e i k h is below j l =
+    let starts = slot_starts slots in
+    let n = length-map slots (λ (x : Extent). x.from) in
+    ap (λ xs. get_or xs j 0) (map-set (λ (x : Extent). x.from) slots i e) ∙ ⊎_elim
+    (λ z. ap (λ x. get_or (set starts i e.from) x 0) z ∙ get_or-set_same starts i e.from 0 (omega arith) ∙ is ∙ ap (λ x. 24 * (x * k)) (sym z))
+    (λ ne. get_or-set_other starts i j e.from 0 ne ∙ below j (omega arith)) (cases_eq j i)
 
--- the test of a new parcel by the numbers that the code computes
-pub same_misfit : (n size m k r count used bytes : ℕ) → m ≡ slot_count n size → k ≡ slot_size size → r ≡ slot_count n size * slot_size size
-    → misfit (record { most = m; longest = k; room = r }) count used bytes ≡ misfit (slot_sizes n size) count used bytes
-same_misfit n size m k r count used bytes a b c =
-    ap (λ x. misfit (record { most = x; longest = k; room = r }) count used bytes) a
-    ∙ ap (λ x. misfit (record { most = slot_count n size; longest = x; room = r }) count used bytes) b
-    ∙ ap (λ x. misfit (record { most = slot_count n size; longest = slot_size size; room = x }) count used bytes) c
+-- the slots in front
+pub starts_front : (slots rest : List Extent) (i : ℕ) → i < length slots → get_or (slot_starts (slots ++ rest)) i 0 ≡ get_or (slot_starts slots) i 0
+starts_front slots rest i h =
+    let n = length-map slots (λ (x : Extent). x.from) in
+    ap (λ xs. get_or xs i 0) (map-append (λ (x : Extent). x.from) slots rest) ∙ get_or_append_left (slot_starts slots) (slot_starts rest) 0 i (omega arith)

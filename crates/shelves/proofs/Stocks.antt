@@ -1,13 +1,11 @@
 -- When a parcel fits, and what then holds of the parcels.
-use Rattle.std.proofs.Common.{◌≡◌, ℕ, zero, suc, ◌+◌, ◌*◌, ◌/◌, ◌%◌, ◌<◌, ◌≤◌, true, ◌||◌, eqb, ltb, leb, List, [], ◌∷◌, ◌++◌, map, length, take, drop, Some, None, sum, sym, refl, ap, ◌∙◌, ⊎_elim, arith}
+use Rattle.std.proofs.Common.{◌≡◌, ℕ, zero, suc, ◌+◌, ◌*◌, ◌/◌, ◌%◌, ◌<◌, ◌≤◌, true, ◌||◌, eqb, ltb, leb, List, [], ◌∷◌, ◌++◌, map, length, take, drop, None, sum, sym, refl, ap, ◌∙◌, ⊎_elim, arith}
 use Rattle.std.specs.List.{remove, slice_get, AllByRecursion}
 use Rattle.std.proofs.lemmas.List.Sums.{sum_by-cons}
 use Rattle.std.proofs.lemmas.List.{length_push}
 use Rattle.std.proofs.lemmas.List.Edits.{length-remove}
 use Rattle.std.proofs.ByRecursion.{All-push, All-append, All-take, All-drop}
-use Rattle.std.proofs.lemmas.Bool.{cases_Bool, cond-true, cond-false, and_parts, or_parts, ltb-true, ltb-false, leb-false, eqb-true, lt-ltb, le-ltb}
-use Rattle.refusals.specs.declared.Refusal.{Refusal}
-use Rattle.refusals.specs.Table.{refused}
+use Rattle.std.proofs.lemmas.Bool.{cases_Bool, cond-true, cond-false, and_parts, or_parts, ltb-true, ltb-false, leb-false, eqb-true, lt-ltb}
 use Rattle.shelves.specs.Parcels.{Sizes, Within, records, held, whole, crowded, misfit, unless, append_refusal, after_append, remove_refusal, after_remove}
 
 -- a parcel of so many bytes fits beside `count` parcels with `used` records
@@ -78,12 +76,13 @@ within_remove z ps i w h =
       held = omega (arith, held_removed ps i, w.held);
     }
 
+-- the test of a new parcel by the numbers that the code computes
+pub same_misfit : (y z : Sizes) (ps : List (List ℕ)) (count used n : ℕ) → y ≡ z → count ≡ length ps → used ≡ held ps → misfit y count used n ≡ misfit z (length ps) (held ps) n
+same_misfit y z ps count used n e f g = ap (λ x. misfit x count used n) e ∙ ap (λ x. misfit z x used n) f ∙ ap (λ x. misfit z (length ps) x n) g
+
 -- each outcome of a call
 pub append_taken : (z : Sizes) (ps : List (List ℕ)) (p : List ℕ) → append_refusal z ps p ≡ None → after_append z ps p ≡ ps ++ p ∷ []
 append_taken z ps p e = ap (λ o. unless o (ps ++ p ∷ []) ps) e
-
-pub append_refused : (z : Sizes) (ps : List (List ℕ)) (p : List ℕ) (r : Refusal) → append_refusal z ps p ≡ Some r → after_append z ps p ≡ ps
-append_refused z ps p r e = ap (λ o. unless o (ps ++ p ∷ []) ps) e
 
 pub remove_answer : (ps : List (List ℕ)) (i : ℕ) → i < length ps → remove_refusal ps i ≡ None
 remove_answer ps i h = cond-true _ _ _ (lt-ltb i (length ps) h)
@@ -91,14 +90,8 @@ remove_answer ps i h = cond-true _ _ _ (lt-ltb i (length ps) h)
 pub remove_taken : (ps : List (List ℕ)) (i : ℕ) → i < length ps → after_remove ps i ≡ remove ps i
 remove_taken ps i h = ap (λ o. unless o (remove ps i) ps) (remove_answer ps i h)
 
-pub remove_none : (ps : List (List ℕ)) (i : ℕ) → length ps ≤ i → remove_refusal ps i ≡ Some (refused 11 i)
-remove_none ps i h = cond-false _ _ _ (le-ltb i (length ps) h)
-
-pub remove_refused : (ps : List (List ℕ)) (i : ℕ) → length ps ≤ i → after_remove ps i ≡ ps
-remove_refused ps i h = ap (λ o. unless o (remove ps i) ps) (remove_none ps i h)
-
--- no parcel at a position
-pub past_from_nth : (ps : List (List ℕ)) (i : ℕ) → None ≡ slice_get ps i → length ps ≤ i
-past_from_nth [] i e = omega arith
-past_from_nth (p ∷ ps) zero e = absurd (let o : ◌≡◌ {A = ℕ} 0 1 = cc in omega arith)
-past_from_nth (p ∷ ps) (suc i) e = let h = past_from_nth ps i e in omega arith
+-- nothing at a position
+pub past_from_get : {X : Type 0} (xs : List X) (i : ℕ) → slice_get xs i ≡ None → length xs ≤ i
+past_from_get [] i e = omega arith
+past_from_get (x ∷ xs) zero e = cc
+past_from_get (x ∷ xs) (suc i) e = let h = past_from_get xs i e in omega arith

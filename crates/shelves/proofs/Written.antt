@@ -54,11 +54,6 @@ laid_past bytes room start from limit (b ∷ news) h =
 pub laid_spare : (bytes : List ℕ) (room start from : ℕ) (news : List ℕ) → start ≤ room → from + length news ≤ room → drop room (laid bytes room start from news) ≡ drop room bytes
 laid_spare bytes room start from news s h = laid_past bytes room start from room news (λ i l. turn_within room start (from + i) s (omega arith))
 
-pub length_slid : (bytes : List ℕ) (room start at gap n : ℕ) → length (slid bytes room start at gap n) ≡ length bytes
-length_slid bytes room start at gap zero = refl
-length_slid bytes room start at gap (suc n) =
-    length_slid (set bytes (turn room start at) (byte bytes room start (at + gap))) room start (at + 1) gap n ∙ length-set bytes (turn room start at) (byte bytes room start (at + gap))
-
 pub slid_other : (bytes : List ℕ) (room start at gap n j : ℕ) → ((i : ℕ) → i < n → j ≢ turn room start (at + i)) → get_or (slid bytes room start at gap n) j 0 ≡ get_or bytes j 0
 slid_other bytes room start at gap zero j ne = refl
 slid_other bytes room start at gap (suc n) j ne =

@@ -1,5 +1,5 @@
 -- How bytes lie in lent memory, round its end.
-use Rattle.std.specs.Prelude.{ℕ, zero, suc, ◌+◌, ◌-◌, cond, List, [], ◌∷◌, map, ◌==◌, nat_lt, slice_index, slice_set}
+use Rattle.std.specs.Prelude.{ℕ, zero, suc, ◌+◌, ◌-◌, cond, List, [], ◌∷◌, map, nat_lt, slice_index, slice_set}
 use Rattle.std.specs.List.{range_with_len}
 
 -- the place i places on from `start`, round the end of `room` places
@@ -28,7 +28,3 @@ slid bytes room start at gap (suc count) = slid (slice_set bytes (turn room star
 abbrev pub pieces : (ℕ → ℕ) → ℕ → List ℕ → List (List ℕ)
 pieces f from [] = []
 pieces f from (l ∷ ls) = map f (range_with_len from l) ∷ pieces f (from + l) ls
-
--- where the number came from that stands at i, after the one at `at` was put behind the others, at `last`
-abbrev pub source : ℕ → ℕ → ℕ → ℕ
-source at last i = cond (nat_lt i at) i (cond (nat_lt i last) (i + 1) (cond (i == last) at i))

@@ -1,7 +1,9 @@
 -- What a shelf holds, when a call is refused, and what a call answers and leaves.
 -- A parcel is a list of bytes, and a shelf holds a list of parcels.
 use Rattle.std.specs.Prelude.{◌≡◌, ℕ, ◌+◌, ◌*◌, ◌/◌, ◌%◌, ◌≤◌, Bool, true, cond, ◌&&◌, ◌||◌, List, [], ◌∷◌, ◌++◌, length, take, drop, replicate, Some, None, Ok, Err, Option, Result, ◌==◌, nat_le, nat_lt}
-use Rattle.std.specs.List.{remove, AllByRecursion}
+use Rattle.std.specs.List.{remove, AllByRecursion, AllByRecursion-prop}
+use Rattle.std.specs.Coded.{le_prop}
+use mathlib.Core.Bool.{Bool-set}
 use Rattle.refusals.specs.declared.Refusal.{Refusal}
 use Rattle.refusals.specs.Table.{refused}
 use Rattle.shelves.specs.declared.fault.ShelfFault.{ShelfFault}
@@ -91,14 +93,18 @@ abbrev pub refusal : {X : Type 0} → Result X ShelfFault → Option Refusal
 refusal (Ok x) = None
 refusal (Err f) = Some (shelf_fault f)
 
--- the refusal that a fault stands for, if there is one
-abbrev pub fault_refusal : Option ShelfFault → Option Refusal
-fault_refusal None = None
-fault_refusal (Some f) = Some (shelf_fault f)
-
--- what holds of the parcels on every sound shelf of these sizes
+-- what holds of the parcels on every shelf of these sizes
 pub record Within (z : Sizes) (ps : List (List ℕ)) : Type 0 where
   pub few : length ps ≤ z.most
   pub whole : AllByRecursion (λ p. whole (length p) ≡ true) ps
   pub short : AllByRecursion (λ p. records p ≤ z.longest) ps
   pub held : held ps ≤ z.room
+
+-- which has one proof at most
+pub Within-prop : (z : Sizes) (ps : List (List ℕ)) → IsProp (Within z ps)
+Within-prop z ps x y = λ i. record {
+  few = le_prop x.few y.few i;
+  whole = AllByRecursion-prop (λ p. whole (length p) ≡ true) (λ p. Bool-set _ _) ps x.whole y.whole i;
+  short = AllByRecursion-prop (λ p. records p ≤ z.longest) (λ p. le_prop) ps x.short y.short i;
+  held = le_prop x.held y.held i;
+}

@@ -1,10 +1,7 @@
 // What a shelf refuses.
-ghost use Rattle.std.specs.Prelude.{◌≡◌};
-ghost use Rattle.shelves.specs.Parcels.{shelf_fault};
-
 use refusals::{Refusal, refuse};
 
-#[derive(Clone, Copy)]
+#[derive(Clone, Copy, Debug, PartialEq, Eq)]
 pub enum ShelfFault {
     // No parcel stands at this position.
     NoParcel(usize),
@@ -16,12 +13,15 @@ pub enum ShelfFault {
     NotRecords(usize),
 }
 
-impl ShelfFault {
-    // The number, the layer and the place by which a caller is told.
-    pub fn refusal(self) -> Refusal
-        ensures { result ≡ shelf_fault self }
-    {
-        match self {
+// The number, the layer and the place by which a caller is told.
+impl From<ShelfFault> for Refusal {
+    ghost use Rattle.std.specs.Prelude.{◌≡◌};
+    ghost use Rattle.shelves.specs.Parcels.{shelf_fault};
+
+    ghost from_gives = { λ f r. r ≡ shelf_fault f };
+
+    fn from(fault: ShelfFault) -> Refusal {
+        match fault {
             ShelfFault::NoParcel(position) => refuse(11, position as u64),
             ShelfFault::MemoryShort(needed) => refuse(12, needed as u64),
             ShelfFault::Full(records) => refuse(13, records as u64),

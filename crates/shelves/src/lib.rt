@@ -3,7 +3,6 @@
 
 mod extent;
 pub mod fault;
-mod numbers;
 mod reading;
 pub mod ring;
 mod ring_parts;

@@ -6,40 +6,22 @@ ghost use Rattle.shelves.specs.Extents.{parcel_in};
 
 use crate::extent::Extent;
 use crate::fault::ShelfFault;
-use crate::round::copy_out;
+use crate::round::Round;
 
 // How many bytes it has.
 pub fn extent_length(extent: Option<Extent>) -> usize
     ensures { (f : ℕ → ℕ) → result ≡ length_of (parcel_in f extent) }
 {
-    match extent {
-        Some(extent) => extent.length,
-        None => 0,
-    }
+    extent.map_or(0, |e| e.length)
 }
 
 // One of its records.
-pub fn read_record(
-    bytes: &[u8],
-    room: usize,
-    start: usize,
-    extent: Option<Extent>,
-    index: usize,
-) -> [u8; 24]
-    ensures { result ≡ record_of (parcel_in (byte bytes.now room start) extent) index }
+pub fn read_record(bytes: &[u8], round: Round, extent: Option<Extent>, index: usize) -> [u8; 24]
+    ensures { result ≡ record_of (parcel_in (byte bytes.now round.room round.start) extent) index }
 {
     let mut record = [0; 24];
-    if let Some(extent) = extent {
-        if index < extent.length / 24 {
-            copy_out(
-                bytes,
-                room,
-                start,
-                extent.from + 24 * index,
-                24,
-                &mut record,
-            );
-        }
+    if let Some(found) = extent.and_then(|e| e.record(index)) {
+        round.copy_out(bytes, found, &mut record);
     }
     record
 }
@@ -47,21 +29,18 @@ pub fn read_record(
 // All of it, at the front of the memory.
 pub fn copy_parcel(
     bytes: &[u8],
-    room: usize,
-    start: usize,
+    round: Round,
     extent: Option<Extent>,
     position: usize,
     memory: &mut [u8],
 ) -> Result<usize, ShelfFault>
-    ensures answer { told result ≡ copy_answer (parcel_in (byte bytes.now room start) extent) position (length memory.old) }
-    ensures memory { memory.new ≡ copy_memory (parcel_in (byte bytes.now room start) extent) memory.old }
+    ensures answer { told result ≡ copy_answer (parcel_in (byte bytes.now round.room round.start) extent) position (length memory.old) }
+    ensures memory { memory.new ≡ copy_memory (parcel_in (byte bytes.now round.room round.start) extent) memory.old }
 {
-    let Some(extent) = extent else {
-        return Err(ShelfFault::NoParcel(position));
-    };
+    let extent = extent.ok_or(ShelfFault::NoParcel(position))?;
     if extent.length > memory.len() {
         return Err(ShelfFault::MemoryShort(extent.length));
     }
-    copy_out(bytes, room, start, extent.from, extent.length, memory);
+    round.copy_out(bytes, extent, memory);
     Ok(extent.length)
 }

@@ -5,6 +5,7 @@ ghost use Rattle.shelves.specs.Parcels.{Sizes, Within, length_of, record_of, cop
 
 use crate::fault::ShelfFault;
 
+// That `sizes` and `spare` stay is about a shelf before and after a call, which no law of one shelf can say: so each call that changes a shelf says it.
 pub trait Shelf {
     // The parcels, from the first to the last.
     ghost parcels: { Self → List (List ℕ) };
@@ -15,11 +16,8 @@ pub trait Shelf {
     // The lent bytes past those that the shelf may use.
     ghost spare: { Self → List ℕ };
 
-    // What holds of every shelf that a constructor and the calls below made.
-    ghost sound: { Self → Type 0 };
-
-    // A sound shelf holds no more than its numbers say, and whole records.
-    ghost within: { (s : Self) → sound s → Within (sizes s) (parcels s) };
+    // A shelf holds no more than its numbers say, and whole records.
+    ghost within: { (s : Self) → Within (sizes s) (parcels s) };
 
     // The most parcels.
     fn most_parcels(&self) -> usize
@@ -35,34 +33,33 @@ pub trait Shelf {
 
     // How many parcels there are.
     fn count(&self) -> usize
-        ensures { sound self.now → result ≡ length (parcels self.now) };
+        ensures { result ≡ length (parcels self.now) };
 
     // How many bytes the parcel at a position has; 0 where there is none.
+    // 0 here, and 24 bytes 0 below, are the answers of docs/SHELVES.md, so that a caller needs no case for them.
     fn length_at(&self, position: usize) -> usize
-        ensures { sound self.now → result ≡ length_of (slice_get (parcels self.now) position) };
+        ensures { result ≡ length_of (slice_get (parcels self.now) position) };
 
     // One record of a parcel; 24 bytes 0 where there is none.
     fn record_at(&self, position: usize, index: usize) -> [u8; 24]
-        ensures { sound self.now → result ≡ record_of (slice_get (parcels self.now) position) index };
+        ensures { result ≡ record_of (slice_get (parcels self.now) position) index };
 
     // Copies a parcel to the front of the memory, and answers its length.
     fn copy(&self, position: usize, memory: &mut [u8]) -> Result<usize, ShelfFault>
-        ensures answer { sound self.now → told result ≡ copy_answer (slice_get (parcels self.now) position) position (length memory.old) }
-        ensures memory { sound self.now → memory.new ≡ copy_memory (slice_get (parcels self.now) position) memory.old };
+        ensures answer { told result ≡ copy_answer (slice_get (parcels self.now) position) position (length memory.old) }
+        ensures memory { memory.new ≡ copy_memory (slice_get (parcels self.now) position) memory.old };
 
     // Appends a parcel at the end.
     fn append(&mut self, parcel: &[u8]) -> Result<(), ShelfFault>
         ensures sizes { sizes self.new ≡ sizes self.old }
-        ensures answer { sound self.old → refusal result ≡ append_refusal (sizes self.old) (parcels self.old) parcel.now }
-        ensures after { sound self.old → parcels self.new ≡ after_append (sizes self.old) (parcels self.old) parcel.now }
-        ensures spare { sound self.old → spare self.new ≡ spare self.old }
-        ensures stays { sound self.old → sound self.new };
+        ensures answer { refusal result ≡ append_refusal (sizes self.old) (parcels self.old) parcel.now }
+        ensures after { parcels self.new ≡ after_append (sizes self.old) (parcels self.old) parcel.now }
+        ensures spare { spare self.new ≡ spare self.old };
 
     // Removes the parcel at a position; the others keep their order.
     fn remove(&mut self, position: usize) -> Result<(), ShelfFault>
         ensures sizes { sizes self.new ≡ sizes self.old }
-        ensures answer { sound self.old → refusal result ≡ remove_refusal (parcels self.old) position }
-        ensures after { sound self.old → parcels self.new ≡ after_remove (parcels self.old) position }
-        ensures spare { sound self.old → spare self.new ≡ spare self.old }
-        ensures stays { sound self.old → sound self.new };
+        ensures answer { refusal result ≡ remove_refusal (parcels self.old) position }
+        ensures after { parcels self.new ≡ after_remove (parcels self.old) position }
+        ensures spare { spare self.new ≡ spare self.old };
 }

@@ -1,10 +1,11 @@
 // How many slots there are, and where they lie.
-ghost use Rattle.std.specs.Prelude.{◌≡◌, ℕ, ◌+◌, ◌*◌, ◌^◌, ◌<◌, ◌≤◌, length, slice_index};
-ghost use Rattle.std.specs.List.{slice_get};
-ghost use Rattle.shelves.specs.Extents.{parcel_in};
-ghost use Rattle.shelves.specs.Slotted.{slot_size, slot_count, slotted, Disjoint};
+// No struct holds a size with a number of bytes: a shelf keeps the caller's size, and reads the number off its bytes.
+ghost use Rattle.std.specs.Prelude.{◌≡◌, ◌*◌, ◌^◌, ◌<◌, sum_by};
+ghost use Rattle.shelves.specs.declared.extent.Extent.{Extent};
+ghost use Rattle.shelves.specs.Slotted.{slot_size, slot_count, slot_starts, Disjoint};
 
 use crate::extent::Extent;
+use crate::stock::MOST_PARCELS;
 
 // The records of a slot: 0 counts as 1.
 pub fn records_of(size: usize) -> usize
@@ -17,7 +18,7 @@ pub fn records_of(size: usize) -> usize
 pub fn count_of(bytes: usize, size: usize) -> usize
     ensures { result ≡ slot_count bytes size }
 {
-    (bytes / 24 / records_of(size)).min(128)
+    (bytes / 24 / records_of(size)).min(MOST_PARCELS)
 }
 
 // How many records all of them have room for.
@@ -27,31 +28,25 @@ pub fn room_of(bytes: usize, size: usize) -> usize
     count_of(bytes, size) * records_of(size)
 }
 
-// The first place of each slot.
-pub fn starts_of(bytes: usize, size: usize) -> [usize; 128]
-    ensures { Disjoint result (slot_count bytes size) (24 * slot_size size) (24 * (slot_count bytes size * slot_size size)) }
+// How many bytes the parcels in some slots have.
+pub fn used(slots: &[Extent]) -> usize
+    requires { sum_by (λ (e : Extent). e.length) slots.now < 2 ^ 64 }
+    ensures { result ≡ sum_by (λ (e : Extent). e.length) slots.now }
 {
-    let mut starts = [0; 128];
-    let records = records_of(size);
-    for i in 0..count_of(bytes, size) {
-        starts[i] = 24 * (i * records);
-    }
-    starts
+    slots.iter().map(|slot| slot.length).sum()
 }
 
-// Where the parcel at a position lies.
-pub fn slot_of(starts: &[usize], lengths: &[usize], count: usize, position: usize) -> Option<Extent>
-    ensures { (f : ℕ → ℕ) → count ≤ length starts.now → count ≤ length lengths.now
-        → (position < count → slice_index starts.now position + slice_index lengths.now position < 2 ^ 64)
-        → parcel_in f result ≡ slice_get (slotted f starts.now lengths.now count) position }
+// The slots, empty.
+pub fn slots_in(bytes: usize, size: usize) -> [Extent; MOST_PARCELS]
+    ensures { Disjoint (slot_starts result) (slot_count bytes size) (24 * slot_size size) (24 * (slot_count bytes size * slot_size size)) }
 {
-    if position >= count || position >= starts.len() || position >= lengths.len() {
-        return None;
+    let mut slots = [Extent { from: 0, length: 0 }; MOST_PARCELS];
+    let records = records_of(size);
+    for (i, slot) in slots[..count_of(bytes, size)].iter_mut().enumerate() {
+        *slot = Extent {
+            from: 24 * (i * records),
+            length: 0,
+        };
     }
-    let from = starts[position];
-    let length = lengths[position];
-    if length > usize::MAX - from {
-        return None;
-    }
-    Some(Extent { from, length })
+    slots
 }

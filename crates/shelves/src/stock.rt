@@ -1,8 +1,11 @@
 // Whether a shelf has room for a parcel.
-ghost use Rattle.std.specs.Prelude.{◌≡◌};
-ghost use Rattle.shelves.specs.Parcels.{misfit, fault_refusal};
+ghost use Rattle.std.specs.Prelude.{◌≡◌, ◌<◌, ◌≤◌, OnOk};
+ghost use Rattle.shelves.specs.Parcels.{misfit, refusal};
 
 use crate::fault::ShelfFault;
+
+// The most parcels on a ring or in slots.
+pub const MOST_PARCELS: usize = 128;
 
 // What the test of a new parcel goes by: the shelf's numbers, and what it holds.
 #[derive(Clone, Copy)]
@@ -12,21 +15,22 @@ pub struct Stock {
     pub room: usize,
     pub count: usize,
     pub held: usize,
+    ghost within: { held ≤ room },
 }
 
-// What is wrong with a new parcel of so many bytes.
-pub fn append_fault(stock: Stock, bytes: usize) -> Option<ShelfFault>
-    ensures { fault_refusal result ≡ misfit (record { most = stock.most; longest = stock.longest; room = stock.room }) stock.count stock.held bytes }
-{
-    if bytes == 0 || bytes % 24 != 0 {
-        return Some(ShelfFault::NotRecords(bytes));
+impl Stock {
+    // Refuses a new parcel of so many bytes where it does not fit.
+    pub fn check(self, bytes: usize) -> Result<(), ShelfFault>
+        ensures answer { refusal result ≡ misfit (record { most = self.most; longest = self.longest; room = self.room }) self.count self.held bytes }
+        ensures fewer { OnOk result (self.count < self.most) }
+    {
+        if bytes == 0 || bytes % 24 != 0 {
+            return Err(ShelfFault::NotRecords(bytes));
+        }
+        let records = bytes / 24;
+        if self.count >= self.most || records > self.longest || records > self.room - self.held {
+            return Err(ShelfFault::Full(records));
+        }
+        Ok(())
     }
-    let records = bytes / 24;
-    if stock.count >= stock.most || records > stock.longest {
-        return Some(ShelfFault::Full(records));
-    }
-    if stock.held > stock.room || records > stock.room - stock.held {
-        return Some(ShelfFault::Full(records));
-    }
-    None
 }

@@ -1,21 +1,21 @@
 // Examples of shelves, worked out by hand from their rules: lists of calls with the answers that each must give.
 #![tactic(auto)]
 
+use refusals::Refusal;
 use shelves::fault::ShelfFault;
 use shelves::shelf::Shelf;
 
-// One call and what must come of it. A parcel has bytes that count up from its first one.
-// An answer is given as the number and the place of a refusal, or as 0 and what is answered.
+// One call and what must come of it, as data, so that one list serves a ring and slots and the first wrong step has an index. A parcel has bytes that count up from its first one.
 #[derive(Clone, Copy)]
 pub enum Step {
     // Append a parcel of so many bytes, the first of which is given.
-    Append(usize, u8, (u8, usize)),
+    Append(usize, u8, Result<(), Refusal>),
     // Append so many parcels of one record, all accepted.
     Fill(usize, u8),
     // Remove the parcel at a position.
-    Remove(usize, (u8, usize)),
+    Remove(usize, Result<(), Refusal>),
     // Copy the parcel at a position into so many bytes of memory.
-    Copy(usize, usize, (u8, usize)),
+    Copy(usize, usize, Result<usize, Refusal>),
     // At a position stands a parcel of so many bytes, the first of which is given.
     Holds(usize, usize, u8),
     // The record of a parcel at an index begins with this byte, and counts up from it.
@@ -28,27 +28,18 @@ pub enum Step {
     Numbers(usize, usize, usize),
 }
 
-// The number and the place of a refusal, which is layer 1's; of an answer, 0 and the answer.
-pub fn said(answer: Result<usize, ShelfFault>) -> (u8, usize) {
-    match answer {
-        Ok(n) => (0, n),
-        Err(fault) => {
-            let refusal = fault.refusal();
-            if refusal.layer == 1 {
-                (refusal.number, refusal.place as usize)
-            } else {
-                (255, 0)
-            }
-        }
-    }
+// An answer that refuses: shelves are layer 1.
+pub fn refused<T>(number: u8, place: u64) -> Result<T, Refusal> {
+    Err(Refusal {
+        number,
+        layer: 1,
+        place,
+    })
 }
 
-// The same of a call that answers nothing.
-pub fn done(answer: Result<(), ShelfFault>) -> (u8, usize) {
-    match answer {
-        Ok(()) => (0, 0),
-        Err(fault) => said(Err(fault)),
-    }
+// What a caller is told of a fault.
+pub fn told(fault: ShelfFault) -> Refusal {
+    Refusal::from(fault)
 }
 
 // Writes bytes that count up from `first`.
@@ -74,62 +65,63 @@ pub fn counts_up(bytes: &[u8], first: u8) -> bool {
 
 // Whether each byte is `b`.
 pub fn all_are(bytes: &[u8], b: u8) -> bool {
-    for x in bytes {
-        if *x != b {
-            return false;
-        }
-    }
-    true
+    bytes.iter().all(|x| *x == b)
 }
 
-// What a shelf answers to a parcel of so many bytes, at most 240.
-pub fn append_told<S: Shelf>(shelf: &mut S, length: usize, first: u8) -> (u8, usize) {
+// What a shelf answers to a parcel of so many bytes; nothing where an example asks for more than 240.
+pub fn append_told<S: Shelf>(
+    shelf: &mut S,
+    length: usize,
+    first: u8,
+) -> Option<Result<(), Refusal>> {
     let mut parcel = [0; 240];
     count_up(&mut parcel, first);
     if length > 240 {
-        return (255, 1);
+        return None;
     }
-    done(shelf.append(&parcel[0..length]))
+    Some(shelf.append(&parcel[..length]).map_err(told))
 }
 
-// What a shelf answers to a copy into so many bytes, at most 240.
-pub fn copy_told<S: Shelf>(shelf: &S, position: usize, size: usize) -> (u8, usize) {
+// What it answers to the removal of a parcel.
+pub fn remove_told<S: Shelf>(shelf: &mut S, position: usize) -> Result<(), Refusal> {
+    shelf.remove(position).map_err(told)
+}
+
+// What a shelf answers to a copy into so many bytes; nothing where an example asks for more than 240.
+pub fn copy_told<S: Shelf>(
+    shelf: &S,
+    position: usize,
+    size: usize,
+) -> Option<Result<usize, Refusal>> {
     let mut memory = [0; 240];
     if size > 240 {
-        return (255, 2);
+        return None;
     }
-    said(shelf.copy(position, &mut memory[0..size]))
+    Some(shelf.copy(position, &mut memory[..size]).map_err(told))
 }
 
 // Whether a parcel of so many bytes stands at the position, the rest of the memory being left as it was.
 pub fn holds<S: Shelf>(shelf: &S, position: usize, length: usize, first: u8) -> bool {
     let mut memory = [255; 240];
-    let told = said(shelf.copy(position, &mut memory));
+    let answer = shelf.copy(position, &mut memory);
     if length > 240 || shelf.length_at(position) != length {
         return false;
     }
-    told == (0, length)
-        && counts_up(&memory[0..length], first)
-        && all_are(&memory[length..240], 255)
+    answer == Ok(length) && counts_up(&memory[..length], first) && all_are(&memory[length..], 255)
 }
 
 // Whether so many parcels of one record are all accepted.
 pub fn fills<S: Shelf>(shelf: &mut S, count: usize, first: u8) -> bool {
-    for _ in 0..count {
-        if append_told(shelf, 24, first) != (0, 0) {
-            return false;
-        }
-    }
-    true
+    (0..count).all(|_| append_told(shelf, 24, first) == Some(Ok(())))
 }
 
 // Whether the call gives what it must.
 pub fn step_holds<S: Shelf>(shelf: &mut S, step: Step) -> bool {
     match step {
-        Step::Append(length, first, told) => append_told(shelf, length, first) == told,
+        Step::Append(length, first, told) => append_told(shelf, length, first) == Some(told),
         Step::Fill(count, first) => fills(shelf, count, first),
-        Step::Remove(position, told) => done(shelf.remove(position)) == told,
-        Step::Copy(position, size, told) => copy_told(shelf, position, size) == told,
+        Step::Remove(position, told) => remove_told(shelf, position) == told,
+        Step::Copy(position, size, told) => copy_told(shelf, position, size) == Some(told),
         Step::Holds(position, length, first) => holds(shelf, position, length, first),
         Step::Record(position, index, first) => counts_up(&shelf.record_at(position, index), first),
         Step::NoRecord(position, index) => all_are(&shelf.record_at(position, index), 0),
@@ -142,12 +134,25 @@ pub fn step_holds<S: Shelf>(shelf: &mut S, step: Step) -> bool {
 
 // The index of the first step that does not give what it must, or the number of steps.
 pub fn first_wrong<S: Shelf>(shelf: &mut S, steps: &[Step]) -> usize {
-    for i in 0..steps.len() {
-        if !step_holds(shelf, steps[i]) {
-            return i;
-        }
-    }
-    steps.len()
+    steps
+        .iter()
+        .position(|step| !step_holds(shelf, *step))
+        .unwrap_or(steps.len())
+}
+
+// What must come of calls on a shelf with room for one record, of so many parcels at most.
+pub fn one_record(most: usize) -> [Step; 9] {
+    [
+        Step::Numbers(most, 1, 1),
+        Step::Count(0),
+        Step::Append(24, 1, Ok(())),
+        Step::Append(24, 2, refused(13, 1)),
+        Step::Holds(0, 24, 1),
+        Step::Remove(0, Ok(())),
+        Step::Append(24, 30, Ok(())),
+        Step::Holds(0, 24, 30),
+        Step::Count(1),
+    ]
 }
 
 #[cfg(test)]
@@ -162,8 +167,8 @@ mod ring_tests {
         let steps = [
             Step::Numbers(128, 0, 0),
             Step::Count(0),
-            Step::Append(24, 1, (13, 1)),
-            Step::Append(48, 1, (13, 2)),
+            Step::Append(24, 1, refused(13, 1)),
+            Step::Append(48, 1, refused(13, 2)),
             Step::Count(0),
         ];
         assert_eq!(rt; first_wrong(&mut Ring::new(&mut none), &steps), 5);
@@ -174,17 +179,7 @@ mod ring_tests {
     fn memory_of_24_and_25_bytes(rt: HostRuntime) {
         let mut one = [9; 24];
         let mut more = [9; 25];
-        let steps = [
-            Step::Numbers(128, 1, 1),
-            Step::Count(0),
-            Step::Append(24, 1, (0, 0)),
-            Step::Append(24, 2, (13, 1)),
-            Step::Holds(0, 24, 1),
-            Step::Remove(0, (0, 0)),
-            Step::Append(24, 30, (0, 0)),
-            Step::Holds(0, 24, 30),
-            Step::Count(1),
-        ];
+        let steps = one_record(128);
         assert_eq!(rt; first_wrong(&mut Ring::new(&mut one), &steps), 9);
         assert_eq!(rt; first_wrong(&mut Ring::new(&mut more), &steps), 9);
         assert_eq!(rt; (more[0], more[23], more[24]), (30, 53, 9));
@@ -194,14 +189,14 @@ mod ring_tests {
     fn lengths(rt: HostRuntime) {
         let mut memory = [0; 72];
         let steps = [
-            Step::Append(0, 1, (14, 0)),
-            Step::Append(23, 1, (14, 23)),
-            Step::Append(25, 1, (14, 25)),
-            Step::Append(96, 1, (13, 4)),
-            Step::Append(97, 1, (14, 97)),
-            Step::Append(72, 1, (0, 0)),
-            Step::Append(24, 2, (13, 1)),
-            Step::Append(25, 2, (14, 25)),
+            Step::Append(0, 1, refused(14, 0)),
+            Step::Append(23, 1, refused(14, 23)),
+            Step::Append(25, 1, refused(14, 25)),
+            Step::Append(96, 1, refused(13, 4)),
+            Step::Append(97, 1, refused(14, 97)),
+            Step::Append(72, 1, Ok(())),
+            Step::Append(24, 2, refused(13, 1)),
+            Step::Append(25, 2, refused(14, 25)),
             Step::Holds(0, 72, 1),
             Step::Count(1),
         ];
@@ -213,11 +208,11 @@ mod ring_tests {
     fn parcel_across_the_end(rt: HostRuntime) {
         let mut memory = [0; 72];
         let steps = [
-            Step::Append(24, 1, (0, 0)),
-            Step::Append(24, 50, (0, 0)),
-            Step::Remove(0, (0, 0)),
-            Step::Append(48, 100, (0, 0)),
-            Step::Append(24, 200, (13, 1)),
+            Step::Append(24, 1, Ok(())),
+            Step::Append(24, 50, Ok(())),
+            Step::Remove(0, Ok(())),
+            Step::Append(48, 100, Ok(())),
+            Step::Append(24, 200, refused(13, 1)),
             Step::Holds(0, 24, 50),
             Step::Holds(1, 48, 100),
             Step::Record(1, 0, 100),
@@ -238,23 +233,23 @@ mod ring_tests {
     fn removes_and_appends(rt: HostRuntime) {
         let mut memory = [0; 120];
         let steps = [
-            Step::Append(24, 1, (0, 0)),
-            Step::Append(48, 40, (0, 0)),
-            Step::Append(24, 100, (0, 0)),
-            Step::Append(24, 140, (0, 0)),
-            Step::Remove(1, (0, 0)),
+            Step::Append(24, 1, Ok(())),
+            Step::Append(48, 40, Ok(())),
+            Step::Append(24, 100, Ok(())),
+            Step::Append(24, 140, Ok(())),
+            Step::Remove(1, Ok(())),
             Step::Holds(0, 24, 1),
             Step::Holds(1, 24, 100),
             Step::Holds(2, 24, 140),
-            Step::Append(48, 180, (0, 0)),
+            Step::Append(48, 180, Ok(())),
             Step::Holds(3, 48, 180),
-            Step::Remove(3, (0, 0)),
-            Step::Remove(0, (0, 0)),
-            Step::Append(72, 200, (0, 0)),
+            Step::Remove(3, Ok(())),
+            Step::Remove(0, Ok(())),
+            Step::Append(72, 200, Ok(())),
             Step::Holds(0, 24, 100),
             Step::Holds(1, 24, 140),
             Step::Holds(2, 72, 200),
-            Step::Append(24, 1, (13, 1)),
+            Step::Append(24, 1, refused(13, 1)),
             Step::Count(3),
         ];
         assert_eq!(rt; first_wrong(&mut Ring::new(&mut memory), &steps), 18);
@@ -264,18 +259,18 @@ mod ring_tests {
     fn positions_and_short_memory(rt: HostRuntime) {
         let mut memory = [0; 48];
         let steps = [
-            Step::Remove(0, (11, 0)),
-            Step::Copy(0, 24, (11, 0)),
+            Step::Remove(0, refused(11, 0)),
+            Step::Copy(0, 24, refused(11, 0)),
             Step::NoRecord(0, 0),
-            Step::Append(24, 1, (0, 0)),
-            Step::Remove(1, (11, 1)),
-            Step::Copy(1, 24, (11, 1)),
-            Step::Copy(0, 23, (12, 24)),
-            Step::Copy(0, 24, (0, 24)),
+            Step::Append(24, 1, Ok(())),
+            Step::Remove(1, refused(11, 1)),
+            Step::Copy(1, 24, refused(11, 1)),
+            Step::Copy(0, 23, refused(12, 24)),
+            Step::Copy(0, 24, Ok(24)),
             Step::Record(0, 0, 1),
             Step::NoRecord(0, 1),
             Step::NoRecord(1, 0),
-            Step::Remove(7, (11, 7)),
+            Step::Remove(7, refused(11, 7)),
             Step::Holds(0, 24, 1),
             Step::Count(1),
         ];
@@ -288,13 +283,13 @@ mod ring_tests {
         let steps = [
             Step::Numbers(128, 130, 130),
             Step::Fill(128, 5),
-            Step::Append(24, 6, (13, 1)),
+            Step::Append(24, 6, refused(13, 1)),
             Step::Count(128),
-            Step::Remove(64, (0, 0)),
-            Step::Append(24, 6, (0, 0)),
+            Step::Remove(64, Ok(())),
+            Step::Append(24, 6, Ok(())),
             Step::Holds(126, 24, 5),
             Step::Holds(127, 24, 6),
-            Step::Append(24, 7, (13, 1)),
+            Step::Append(24, 7, refused(13, 1)),
         ];
         assert_eq!(rt; first_wrong(&mut Ring::new(&mut memory), &steps), 9);
     }
@@ -312,8 +307,8 @@ mod slots_tests {
         let steps = [
             Step::Numbers(0, 1, 0),
             Step::Count(0),
-            Step::Append(24, 1, (13, 1)),
-            Step::Append(25, 1, (14, 25)),
+            Step::Append(24, 1, refused(13, 1)),
+            Step::Append(25, 1, refused(14, 25)),
             Step::Count(0),
         ];
         assert_eq!(rt; first_wrong(&mut Slots::new(&mut none, 1), &steps), 5);
@@ -324,17 +319,7 @@ mod slots_tests {
     fn memory_of_24_and_25_bytes(rt: HostRuntime) {
         let mut one = [9; 24];
         let mut more = [9; 25];
-        let steps = [
-            Step::Numbers(1, 1, 1),
-            Step::Count(0),
-            Step::Append(24, 1, (0, 0)),
-            Step::Append(24, 2, (13, 1)),
-            Step::Holds(0, 24, 1),
-            Step::Remove(0, (0, 0)),
-            Step::Append(24, 30, (0, 0)),
-            Step::Holds(0, 24, 30),
-            Step::Count(1),
-        ];
+        let steps = one_record(1);
         assert_eq!(rt; first_wrong(&mut Slots::new(&mut one, 1), &steps), 9);
         assert_eq!(rt; first_wrong(&mut Slots::new(&mut more, 1), &steps), 9);
         assert_eq!(rt; (more[0], more[23], more[24]), (30, 53, 9));
@@ -344,23 +329,23 @@ mod slots_tests {
     #[test]
     fn sizes(rt: HostRuntime) {
         let mut memory = [0; 49];
-        let none = [
+        let two_slots = [
             Step::Numbers(2, 1, 2),
-            Step::Append(24, 1, (0, 0)),
-            Step::Append(24, 2, (0, 0)),
-            Step::Append(24, 3, (13, 1)),
+            Step::Append(24, 1, Ok(())),
+            Step::Append(24, 2, Ok(())),
+            Step::Append(24, 3, refused(13, 1)),
         ];
-        assert_eq!(rt; first_wrong(&mut Slots::new(&mut memory, 0), &none), 4);
+        assert_eq!(rt; first_wrong(&mut Slots::new(&mut memory, 0), &two_slots), 4);
         let large = [
             Step::Numbers(0, 3, 0),
-            Step::Append(24, 1, (13, 1)),
-            Step::Append(0, 1, (14, 0)),
+            Step::Append(24, 1, refused(13, 1)),
+            Step::Append(0, 1, refused(14, 0)),
             Step::Count(0),
         ];
         assert_eq!(rt; first_wrong(&mut Slots::new(&mut memory, 3), &large), 4);
         let huge = [
             Step::Numbers(0, usize::MAX, 0),
-            Step::Append(24, 1, (13, 1)),
+            Step::Append(24, 1, refused(13, 1)),
         ];
         assert_eq!(rt;
             first_wrong(&mut Slots::new(&mut memory, usize::MAX), &huge),
@@ -374,10 +359,10 @@ mod slots_tests {
         let mut memory = [0; 96];
         let steps = [
             Step::Numbers(4, 1, 4),
-            Step::Append(48, 1, (13, 2)),
-            Step::Append(23, 1, (14, 23)),
-            Step::Append(0, 1, (14, 0)),
-            Step::Append(24, 1, (0, 0)),
+            Step::Append(48, 1, refused(13, 2)),
+            Step::Append(23, 1, refused(14, 23)),
+            Step::Append(0, 1, refused(14, 0)),
+            Step::Append(24, 1, Ok(())),
             Step::Holds(0, 24, 1),
             Step::Count(1),
         ];
@@ -389,21 +374,21 @@ mod slots_tests {
         let mut memory = [0; 192];
         let steps = [
             Step::Numbers(4, 2, 8),
-            Step::Append(24, 1, (0, 0)),
-            Step::Append(48, 40, (0, 0)),
-            Step::Append(24, 100, (0, 0)),
-            Step::Append(48, 140, (0, 0)),
-            Step::Append(24, 1, (13, 1)),
-            Step::Remove(1, (0, 0)),
-            Step::Append(48, 200, (0, 0)),
+            Step::Append(24, 1, Ok(())),
+            Step::Append(48, 40, Ok(())),
+            Step::Append(24, 100, Ok(())),
+            Step::Append(48, 140, Ok(())),
+            Step::Append(24, 1, refused(13, 1)),
+            Step::Remove(1, Ok(())),
+            Step::Append(48, 200, Ok(())),
             Step::Holds(0, 24, 1),
             Step::Holds(1, 24, 100),
             Step::Holds(2, 48, 140),
             Step::Holds(3, 48, 200),
-            Step::Remove(0, (0, 0)),
-            Step::Remove(2, (0, 0)),
-            Step::Append(24, 7, (0, 0)),
-            Step::Append(48, 60, (0, 0)),
+            Step::Remove(0, Ok(())),
+            Step::Remove(2, Ok(())),
+            Step::Append(24, 7, Ok(())),
+            Step::Append(48, 60, Ok(())),
             Step::Holds(0, 24, 100),
             Step::Holds(1, 48, 140),
             Step::Holds(2, 24, 7),
@@ -416,13 +401,13 @@ mod slots_tests {
     fn positions_and_short_memory(rt: HostRuntime) {
         let mut memory = [0; 48];
         let steps = [
-            Step::Remove(0, (11, 0)),
-            Step::Copy(0, 24, (11, 0)),
-            Step::Append(48, 1, (0, 0)),
-            Step::Remove(1, (11, 1)),
-            Step::Copy(1, 48, (11, 1)),
-            Step::Copy(0, 47, (12, 48)),
-            Step::Copy(0, 48, (0, 48)),
+            Step::Remove(0, refused(11, 0)),
+            Step::Copy(0, 24, refused(11, 0)),
+            Step::Append(48, 1, Ok(())),
+            Step::Remove(1, refused(11, 1)),
+            Step::Copy(1, 48, refused(11, 1)),
+            Step::Copy(0, 47, refused(12, 48)),
+            Step::Copy(0, 48, Ok(48)),
             Step::Record(0, 1, 25),
             Step::NoRecord(0, 2),
             Step::NoRecord(1, 0),
@@ -438,12 +423,12 @@ mod slots_tests {
         let steps = [
             Step::Numbers(128, 1, 128),
             Step::Fill(128, 5),
-            Step::Append(24, 6, (13, 1)),
-            Step::Remove(64, (0, 0)),
-            Step::Append(24, 6, (0, 0)),
+            Step::Append(24, 6, refused(13, 1)),
+            Step::Remove(64, Ok(())),
+            Step::Append(24, 6, Ok(())),
             Step::Holds(126, 24, 5),
             Step::Holds(127, 24, 6),
-            Step::Append(24, 7, (13, 1)),
+            Step::Append(24, 7, refused(13, 1)),
         ];
         assert_eq!(rt; first_wrong(&mut Slots::new(&mut memory, 1), &steps), 8);
         assert!(rt; all_are(&memory[3072..3120], 9));
@@ -466,9 +451,9 @@ mod move_tests {
         let mut ring = Ring::new(&mut one);
         let mut slots = Slots::new(&mut two, 2);
         let before = [
-            Step::Append(24, 1, (0, 0)),
-            Step::Append(72, 40, (0, 0)),
-            Step::Append(24, 130, (0, 0)),
+            Step::Append(24, 1, Ok(())),
+            Step::Append(72, 40, Ok(())),
+            Step::Append(24, 130, Ok(())),
         ];
         assert_eq!(rt; first_wrong(&mut ring, &before), 3);
         assert_eq!(rt; move_parcels(&mut ring, &mut slots, &mut memory), 1);
@@ -498,9 +483,9 @@ mod move_tests {
         let mut slots = Slots::new(&mut one, 2);
         let mut ring = Ring::new(&mut two);
         let before = [
-            Step::Append(24, 1, (0, 0)),
-            Step::Append(48, 40, (0, 0)),
-            Step::Append(24, 130, (0, 0)),
+            Step::Append(24, 1, Ok(())),
+            Step::Append(48, 40, Ok(())),
+            Step::Append(24, 130, Ok(())),
         ];
         assert_eq!(rt; first_wrong(&mut slots, &before), 3);
         assert_eq!(rt; move_parcels(&mut slots, &mut ring, &mut short), 0);
@@ -529,10 +514,10 @@ mod move_tests {
         let mut ring = Ring::new(&mut one);
         let mut slots = Slots::new(&mut two, 2);
         let before = [
-            Step::Append(24, 1, (0, 0)),
-            Step::Append(48, 40, (0, 0)),
-            Step::Append(24, 130, (0, 0)),
-            Step::Append(24, 1, (13, 1)),
+            Step::Append(24, 1, Ok(())),
+            Step::Append(48, 40, Ok(())),
+            Step::Append(24, 130, Ok(())),
+            Step::Append(24, 1, refused(13, 1)),
         ];
         let after = [
             Step::Holds(0, 48, 40),
@@ -555,17 +540,17 @@ mod move_tests {
         let mut memory = [9; 30];
         let mut ring = Ring::new(&mut one);
         assert_eq!(rt;
-            said(append_and_copy(&mut ring, &[7; 24], &mut memory)),
-            (0, 24)
+            append_and_copy(&mut ring, &[7; 24], &mut memory).map_err(told),
+            Ok(24)
         );
         assert!(rt; all_are(&memory[0..24], 7) && all_are(&memory[24..30], 9));
         assert_eq!(rt;
-            said(append_and_copy(&mut ring, &[8; 48], &mut memory)),
-            (13, 2)
+            append_and_copy(&mut ring, &[8; 48], &mut memory).map_err(told),
+            refused(13, 2)
         );
         assert_eq!(rt;
-            said(append_and_copy(&mut ring, &[8; 24], &mut memory[0..23])),
-            (12, 24)
+            append_and_copy(&mut ring, &[8; 24], &mut memory[0..23]).map_err(told),
+            refused(12, 24)
         );
     }
 }

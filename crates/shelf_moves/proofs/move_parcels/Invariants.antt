@@ -8,5 +8,10 @@ invariant-loop-i g l =
     let B = g.B.Shelf in
     let a = l.initial.from in
     let b = l.initial.to in
-    (A.sizes l.from ≡ A.sizes a) × (B.sizes l.to ≡ B.sizes b)
-    × (A.sound a → B.sound b → A.sound l.from × B.sound l.to × (A.spare l.from ≡ A.spare a) × (B.spare l.to ≡ B.spare b) × OnTheWay (B.sizes b) (A.parcels a) (B.parcels b) l.initial.memory l.i (A.parcels l.from) (B.parcels l.to) l.memory)
+    record {
+      from_sizes : A.sizes l.from ≡ A.sizes a;
+      to_sizes : B.sizes l.to ≡ B.sizes b;
+      from_spare : A.spare l.from ≡ A.spare a;
+      to_spare : B.spare l.to ≡ B.spare b;
+      way : OnTheWay (B.sizes b) (A.parcels a) (B.parcels b) l.initial.memory l.i (A.parcels l.from) (B.parcels l.to) l.memory;
+    }

@@ -1,33 +1,26 @@
-use Rattle.std.proofs.Common.{◌≡◌, ◌+◌, ◌-◌, drop, refl, ap, ◌∙◌, arith}
-use Rattle.shelves.specs.Layout.{byte, slid}
+use Rattle.std.proofs.Common.{◌+◌, ◌-◌, drop, ap, ◌∙◌, arith}
+use Rattle.shelves.specs.Layout.{byte}
 use Rattle.shelves.proofs.Turns.{turn_upto}
 use Rattle.shelves.proofs.Written.{closed_front, closed_middle, slid_spare}
 use Rattle.shelves.proofs.ring_parts.close_up.Goals as goal
 
-pub returns-then-extent-eq0 : goal.returns-then-extent-eq0
-returns-then-extent-eq0 c =
-    let bytes = c.args.bytes.now in
-    let room = c.args.room in
-    let start = c.args.start in
+pub returns-then-extent-eq0-clause-moved : goal.returns-then-extent-eq0-clause-moved
+returns-then-extent-eq0-clause-moved c i h =
+    let r = c.args.round in
     let e = c.args.extent in
-    record {
-      moved = λ s k u f i h. ap (λ b. byte bytes room b i) c.turned.ensures ∙ closed_front bytes room start e.from e.length i s c.if-extent-eq0.true (omega arith);
-      begins = λ s l. let z = c.turned.ensures in omega (arith, turn_upto room start e.length s l);
-      spare = λ _ _ _. refl;
-      front = λ _. refl;
-    }
+    ap (λ b. byte c.args.bytes.now r.room b i) c.place.ensures ∙ closed_front c.args.bytes.now r.room r.start e.from e.length i r.begins c.if-extent-eq0.true (omega arith)
 
-pub returns : goal.returns
-returns c =
-    let bytes = c.args.bytes.now in
-    let room = c.args.room in
-    let start = c.args.start in
+pub returns-then-extent-eq0-clause-begins : goal.returns-then-extent-eq0-clause-begins
+returns-then-extent-eq0-clause-begins c = let r = c.args.round in omega (arith, turn_upto r.room r.start c.args.extent.length r.begins (omega arith))
+
+pub returns-clause-moved : goal.returns-clause-moved
+returns-clause-moved c i h =
+    let r = c.args.round in
     let e = c.args.extent in
-    let n : c.saturating_sub.result ≡ c.args.held - (e.from + e.length) = c.saturating_sub.ensures in
-    let made = c.slide_down.ensures ∙ ap (slid bytes room start e.from e.length) n in
-    record {
-      moved = λ s k u f i h. closed_middle bytes c.slide_down.new.bytes room start e.from e.length c.args.held i s k u f h made;
-      begins = λ s l. s;
-      spare = λ s u f. ap (drop room) made ∙ slid_spare bytes room start e.from e.length (c.args.held - (e.from + e.length)) s (omega arith);
-      front = λ z. absurd (c.if-extent-eq0.false z);
-    }
+    closed_middle c.args.bytes.now c.slide_down.new.bytes r.room r.start e.from e.length c.args.held i r.begins (omega arith) (omega arith) (omega arith) h c.slide_down.ensures
+
+pub returns-clause-spare : goal.returns-clause-spare
+returns-clause-spare c =
+    let r = c.args.round in
+    let e = c.args.extent in
+    ap (drop r.room) c.slide_down.ensures ∙ slid_spare c.args.bytes.now r.room r.start e.from e.length (c.args.held - (e.from + e.length)) r.begins (omega arith)

@@ -3,4 +3,4 @@ use Rattle.shelves.proofs.RingLaws.{ring_count}
 use Rattle.shelves.proofs.ring.RingShelf.count.Goals as goal
 
 pub returns : goal.returns
-returns c s = let t = c.args.self.now in sym (ring_count t.bytes.now t.start t.lengths t.count s.listed)
+returns c = let t = c.args.self.now in sym (ring_count t.bytes.now t.start t.lengths t.count t.sound.listed)

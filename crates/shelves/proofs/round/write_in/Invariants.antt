@@ -1,6 +1,0 @@
-use Rattle.std.proofs.Common.{◌≡◌, ◌+◌, drop}
-use Rattle.shelves.specs.Layout.{laid}
-use Rattle.shelves.proofs.round.write_in.Given as goal
-
-abbrev pub invariant-loop-i : goal.invariant-loop-i
-invariant-loop-i l = laid l.bytes l.room l.start (l.from + l.i) (drop l.i l.news) ≡ laid l.initial.bytes l.room l.start l.from l.news

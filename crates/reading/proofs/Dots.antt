@@ -1,66 +1,69 @@
 -- Walks over the dots of records.
-use Rattle.std.proofs.Common.{◌≡◌, ℕ, suc, ◌+◌, ◌-◌, ◌<◌, ◌≤◌, Bool, true, false, cond, not, ◌&&◌, ◌||◌, List, [], ◌∷◌, ◌++◌, map, Some, None, Option, sym, ap, ◌∙◌, arith}
-use Rattle.std.specs.List.{range_with_len}
-use Rattle.std.proofs.lemmas.List.FromFn.{map-range_with_len_more}
-use Rattle.std.proofs.lemmas.Bool.{cond-true, cond-false}
+use Rattle.std.proofs.Common.{◌≡◌, ℕ, ◌+◌, ◌*◌, ◌/◌, ◌<◌, ◌≤◌, true, false, cond, not, ◌&&◌, ◌||◌, List, [], ◌∷◌, ◌++◌, map, length, get_or, take, drop, Some, Option, sym, refl, ap, ◌∙◌, ap₂, arith, length-take}
+use Rattle.std.specs.List.{list_any}
+use Rattle.std.specs.Simd.{first_chunks}
+use Rattle.std.proofs.lemmas.List.{length-map, map-append, take_more, at_drop_more, get_or-map, get_or-take, get_or-drop}
+use Rattle.std.proofs.lemmas.List.FromFn.{fill_by_all}
 use Rattle.causal.specs.declared.dots.Dot.{Dot}
 use Rattle.causal.specs.declared.runs.Run.{Run}
 use Rattle.causal.specs.Dots.{same_dot}
-use Rattle.causal.specs.Runs.{has}
+use Rattle.causal.specs.Runs.{has, dot}
+use Rattle.records.proofs.Copying.{cut_at}
 use Rattle.reading.specs.Reading.{among, stray}
+use Rattle.records.specs.declared.record.Origin.{Origin}
+use Rattle.reading.specs.Stands.{Stand, dot_in, dot_at, dots_at, closing, entries_read, closed}
 
-pub counting_more : (i n : ℕ) → i < n → range_with_len i (n - i) ≡ i ∷ range_with_len (i + 1) (n - (i + 1))
-counting_more i n h = let e : n - i ≡ suc (n - (i + 1)) = omega arith in ap (range_with_len i) e
+-- a test of each record tells whether the dot is one of theirs
+pub any_among : (d : Dot) (cuts : List (List ℕ)) → list_any (λ r. same_dot (dot_in r) d) cuts ≡ among d (map dot_in cuts)
+any_among d [] = refl
+any_among d (r ∷ cuts) = ap (λ b. same_dot (dot_in r) d || b) (any_among d cuts)
 
-pub counting_done : (i n : ℕ) → n ≤ i → range_with_len i (n - i) ≡ []
-counting_done i n h = let e : n - i ≡ 0 = omega arith in ap (range_with_len i) e
+-- the dot in the record n stands in its bytes
+pub dot_cut : (bytes : List ℕ) (n : ℕ) → dot_in (take 24 (drop (24 * n) bytes)) ≡ dot_at bytes n
+dot_cut bytes n =
+    let byte : (k : ℕ) → k < 24 → get_or (take 24 (drop (24 * n) bytes)) k 0 ≡ get_or bytes (24 * n + k) 0 = λ k h. get_or-take 24 (drop (24 * n) bytes) k 0 h ∙ get_or-drop (24 * n) bytes k 0 in
+    let e : 24 * n + 5 ≡ 24 * n + 4 + 1 = omega arith in
+    let fifth = byte 5 (omega arith) ∙ ap (λ k. get_or bytes k 0) e in
+    λ i. dot (byte 2 (omega arith) i) (byte 4 (omega arith) i * 256 + fifth i)
 
-module _ (f : ℕ → Dot) where
-  abbrev pub rest : ℕ → ℕ → List Dot
-  rest i n = map f (range_with_len i (n - i))
+-- and so do those in the first n
+pub dots_cut : (bytes : List ℕ) (cuts : List (List ℕ)) (n : ℕ) → cuts ≡ first_chunks 24 (length bytes / 24) bytes → length cuts ≡ length bytes / 24 → n ≤ length bytes / 24 → map dot_in (take n cuts) ≡ dots_at bytes n
+dots_cut bytes cuts n e l h =
+    let k : length (take n cuts) ≡ n = omega (arith, length-take n cuts) in
+    fill_by_all (dot_at bytes) (map dot_in (take n cuts)) n (dot 0 0) (length-map (take n cuts) dot_in ∙ k)
+    (λ i w. get_or-map dot_in (take n cuts) i [] (dot 0 0) (omega arith)
+    ∙ ap dot_in (get_or-take n cuts i [] w ∙ ap (λ cs. get_or cs i []) e ∙ cut_at (length bytes / 24) i bytes [] (omega arith)) ∙ dot_cut bytes i)
 
-  rest_more : (i n : ℕ) → i < n → rest i n ≡ f i ∷ rest (i + 1) n
-  rest_more i n h = ap (map f) (counting_more i n h)
+-- what is told where this is the first stray dot of the entries
+pub closed_by : (s : Stand) (o : Origin) (cuts : List (List ℕ)) (n : ℕ) (r : Option ℕ) → cuts ≡ first_chunks 24 (length s.bytes / 24) s.bytes → length cuts ≡ length s.bytes / 24 → n ≡ entries_read s
+    → r ≡ stray s.runs [] 0 (map dot_in (take n cuts)) → closing n s o r ≡ closed s o
+closed_by s o cuts n r e l h f =
+    ap (closing n s o) (f ∙ ap (stray s.runs [] 0) (dots_cut s.bytes cuts n e l (omega (arith, h))))
+    ∙ ap (λ k. closing k s o (stray s.runs [] 0 (dots_at s.bytes k))) h
 
-  rest_done : (i n : ℕ) → n ≤ i → rest i n ≡ []
-  rest_done i n h = ap (map f) (counting_done i n h)
+-- the first stray dot, where none stands before the record i
+module _ (rs : List Run) (cuts : List (List ℕ)) where
+  abbrev pub seen : ℕ → List Dot
+  seen i = map dot_in (take i cuts)
 
-  pub among_here : (d : Dot) (i n : ℕ) → i < n → true ≡ same_dot (f i) d → among d (rest i n) ≡ true
-  among_here d i n h e = ap (among d) (rest_more i n h) ∙ ap (λ b. b || among d (rest (i + 1) n)) (sym e)
+  abbrev pub from : ℕ → Option ℕ
+  from i = stray rs (seen i) i (map dot_in (drop i cuts))
 
-  pub among_later : (d : Dot) (i n : ℕ) → i < n → false ≡ same_dot (f i) d → among d (rest (i + 1) n) ≡ among d (rest i n)
-  among_later d i n h e = sym (ap (among d) (rest_more i n h) ∙ ap (λ b. b || among d (rest (i + 1) n)) (sym e))
+  -- the record i has the dot d
+  module _ (i : ℕ) (d : Dot) (h : i < length cuts) (e : d ≡ dot_in (get_or cuts i [])) where
+    pub seen_more : seen (i + 1) ≡ seen i ++ (d ∷ [])
+    seen_more = ap (map dot_in) (take_more cuts i [] h) ∙ map-append dot_in (take i cuts) (get_or cuts i [] ∷ []) ∙ ap (λ x. seen i ++ (x ∷ [])) (sym e)
 
-  pub among_none : (d : Dot) (i n : ℕ) → n ≤ i → among d (rest i n) ≡ false
-  among_none d i n h = ap (among d) (rest_done i n h)
+    opened : from i ≡ cond (has rs d && not (among d (seen i))) (from (i + 1)) (Some i)
+    opened =
+        at_drop_more (λ cs. stray rs (seen i) i (map dot_in cs)) cuts i [] h ∙ ap (λ x. stray rs (seen i) i (x ∷ map dot_in (drop (i + 1) cuts))) (sym e)
+        ∙ ap (λ ds. cond (has rs d && not (among d (seen i))) (stray rs ds (i + 1) (map dot_in (drop (i + 1) cuts))) (Some i)) (sym seen_more)
 
-  module _ (rs : List Run) where
-    -- the dots before i have been seen
-    abbrev pub from : ℕ → ℕ → Option ℕ
-    from i n = stray rs (map f (range_with_len 0 i)) i (rest i n)
+    pub passes : has rs d ≡ true → among d (seen i) ≡ false → from (i + 1) ≡ from i
+    passes p q = sym (opened ∙ ap₂ (λ b c. cond (b && not c) (from (i + 1)) (Some i)) p q)
 
-    one_step : (i n : ℕ) → i < n → from i n ≡ cond (has rs (f i) && not (among (f i) (map f (range_with_len 0 i)))) (stray rs (map f (range_with_len 0 i) ++ (f i ∷ [])) (i + 1) (rest (i + 1) n)) (Some i)
-    one_step i n h = ap (stray rs (map f (range_with_len 0 i)) i) (rest_more i n h)
+    pub in_no_run : has rs d ≡ false → from i ≡ Some i
+    in_no_run p = opened ∙ ap (λ b. cond (b && not (among d (seen i))) (from (i + 1)) (Some i)) p
 
-    pub stray_later : (i n : ℕ) → i < n → (has rs (f i) && not (among (f i) (map f (range_with_len 0 i)))) ≡ true → from (i + 1) n ≡ from i n
-    stray_later i n h e =
-        sym (one_step i n h ∙ cond-true _ _ (Some i) e ∙ ap (λ seen. stray rs seen (i + 1) (rest (i + 1) n)) (sym (map-range_with_len_more f 0 i i (omega arith))))
-
-    pub stray_here : (i n : ℕ) → i < n → (has rs (f i) && not (among (f i) (map f (range_with_len 0 i)))) ≡ false → from i n ≡ Some i
-    stray_here i n h e = one_step i n h ∙ cond-false _ _ (Some i) e
-
-    pub stray_none : (i n : ℕ) → n ≤ i → from i n ≡ None
-    stray_none i n h = ap (stray rs (map f (range_with_len 0 i)) i) (rest_done i n h)
-
-    -- the test at i, from the answers about its dot
-    abbrev passes : ℕ → Dot → Bool
-    passes i d = has rs d && not (among d (map f (range_with_len 0 i)))
-
-    pub passes_at : (i : ℕ) (d : Dot) → d ≡ f i → has rs d ≡ true → among d (map f (range_with_len 0 i)) ≡ false → passes i (f i) ≡ true
-    passes_at i d e p q = ap (passes i) (sym e) ∙ ap (λ b. b && not (among d (map f (range_with_len 0 i)))) p ∙ ap not q
-
-    pub fails_unknown : (i : ℕ) (d : Dot) → d ≡ f i → has rs d ≡ false → passes i (f i) ≡ false
-    fails_unknown i d e p = ap (passes i) (sym e) ∙ ap (λ b. b && not (among d (map f (range_with_len 0 i)))) p
-
-    pub fails_seen : (i : ℕ) (d : Dot) → d ≡ f i → has rs d ≡ true → among d (map f (range_with_len 0 i)) ≡ true → passes i (f i) ≡ false
-    fails_seen i d e p q = ap (passes i) (sym e) ∙ ap (λ b. b && not (among d (map f (range_with_len 0 i)))) p ∙ ap not q
+    pub come_before : has rs d ≡ true → among d (seen i) ≡ true → from i ≡ Some i
+    come_before p q = opened ∙ ap₂ (λ b c. cond (b && not c) (from (i + 1)) (Some i)) p q

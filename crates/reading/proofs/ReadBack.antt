@@ -2,6 +2,7 @@
 use Rattle.std.proofs.Common.{◌≡◌, ℕ, suc, ◌+◌, ◌*◌, ◌/◌, ◌^◌, ◌<◌, ◌≤◌, true, false, not, ◌&&◌, ◌||◌, ltb, leb, List, [], ◌∷◌, ◌++◌, map, length, Some, None, Option, sym, refl, ap, ◌∙◌, subst, ap₂, append_assoc, append-nil, arith, length-append}
 use Rattle.std.proofs.lemmas.List.{length-map, map-append}
 use Rattle.std.specs.List.{flat_map, AllByRecursion, slice_get}
+use Rattle.std.proofs.lemmas.Grind.{flat_map-append}
 use Rattle.std.proofs.lemmas.Bool.{cond-true, cond-false, lt-ltb, le-ltb, leb-true, and_parts, and_from, not_from_false}
 use Rattle.causal.specs.declared.dots.Dot.{Dot}
 use Rattle.causal.specs.declared.runs.Run.{Run}
@@ -24,6 +25,7 @@ use Rattle.records.specs.Records.{decoded, encoded, is_origin}
 use Rattle.records.specs.Written.{entry_record, records_for, written, record_count, Narrow, Writable}
 use Rattle.records.proofs.Reading.{decoded_encoded}
 use Rattle.reading.proofs.Resume.{resume}
+use Rattle.reading.proofs.Stepping.{last_more}
 use Rattle.stores.proofs.ItemOrder.{dot_turned}
 
 -- each record of a writable group is read back
@@ -36,7 +38,7 @@ dot_narrow d h =
     (omega (arith, leb-true d.replica 16 b.1), omega (arith, leb-true d.counter 65535 c.1))
 
 code_narrow : (o : Option ValueKind) (c : ℕ) → fits_kind o c ≡ true → c < 2 ^ 64
-code_narrow None c h = let z : ◌≡◌ {A = ℕ} 0 1 = cc in absurd (omega arith)
+code_narrow None c h = cc
 code_narrow (Some k) c h = k.narrow c h
 
 entry_back : (ks : List ValueKind) (x : Item) → Proper ks x → Narrow x → decoded (encoded (entry_record x)) ≡ Some (entry_record x)
@@ -69,11 +71,6 @@ module _ (ks : List ValueKind) where
   reads_record : (xs : List Item) (rs : List Run) (n left : ℕ) (rest : List ℕ) (r : Record) → decoded (encoded r) ≡ Some r → record_fault ks (last xs) rs n (Some r) ≡ None
       → scan ks xs rs n (suc left) (encoded r ++ rest) ≡ resume ks xs rs n left rest None (Some r)
   reads_record xs rs n left rest r e f = ap₂ (λ p q. resume ks xs rs n left rest p q) (ap (record_fault ks (last xs) rs n) e ∙ f) e
-
-  pub last_more : {X : Type 0} (xs : List X) (x : X) → last (xs ++ (x ∷ [])) ≡ Some x
-  last_more [] x = refl
-  last_more (y ∷ []) x = refl
-  last_more (y ∷ z ∷ xs) x = last_more (z ∷ xs) x
 
   -- each item follows the one before it
   abbrev Chain : Option Item → List Item → Type 0
@@ -174,8 +171,7 @@ module _ (ks : List ValueKind) where
       ∙ no_stray rs ys (xs ++ (y ∷ [])) (n + 1) (all_more _ xs y (all_rest xs y ys h) (all_turned y ys a.0)) a.1 k.1
 
 pub joined_append : (rs qs : List Record) → flat_map encoded (rs ++ qs) ≡ flat_map encoded rs ++ flat_map encoded qs
-joined_append [] qs = refl
-joined_append (r ∷ rs) qs = ap (λ bs. encoded r ++ bs) (joined_append rs qs) ∙ sym (append_assoc (encoded r) (flat_map encoded rs) (flat_map encoded qs))
+joined_append rs qs = flat_map-append encoded rs qs
 
 pub length_encoded : (rs : List Record) → length (flat_map encoded rs) ≡ 24 * length rs
 length_encoded [] = refl

@@ -1,9 +1,9 @@
 -- What is read is written again as the same bytes, and is a well-formed group.
-use Rattle.std.proofs.Common.{◌≡◌, ℕ, zero, suc, ◌+◌, ◌*◌, ◌/◌, ◌^◌, ◌<◌, ◌≤◌, Bool, true, false, cond, not, ◌&&◌, ltb, List, [], ◌∷◌, ◌++◌, map, length, take, drop, Some, None, Option, sym, refl, ap, ◌∙◌, subst, ap₂, ⊎_elim, append_assoc, arith, length-append, length-drop, length-take, take-add}
+use Rattle.std.proofs.Common.{◌≡◌, ℕ, zero, suc, ◌+◌, ◌*◌, ◌/◌, ◌^◌, ◌<◌, ◌≤◌, true, false, not, ◌&&◌, List, [], ◌∷◌, ◌++◌, map, length, take, drop, Some, None, Option, sym, refl, ap, ◌∙◌, subst, ap₂, ⊎_elim, append_assoc, arith, length-append, length-drop, length-take, take-add}
 use Rattle.std.specs.List.{flat_map, AllByRecursion, slice_get}
 use Rattle.std.proofs.ByRecursion.{All-take, All-drop, All-append}
 use Rattle.std.proofs.lemmas.List.{map-append, drop-drop}
-use Rattle.std.proofs.lemmas.Bool.{ltb-true, and_parts, not-true, false≢true, cases_Bool, or_left, or_right, or_cases}
+use Rattle.std.proofs.lemmas.Bool.{and_parts, not-true, false≢true, cases_Bool, or_left, or_right, or_cases}
 use Rattle.refusals.specs.declared.Refusal.{Refusal}
 use Rattle.causal.specs.declared.dots.Dot.{Dot}
 use Rattle.causal.specs.declared.runs.Run.{Run}
@@ -13,7 +13,6 @@ use Rattle.kinds.specs.Kinds.{ValueKind}
 use Rattle.causal.specs.Runs.{has, canonical, last}
 use Rattle.causal.proofs.RunFacts.{sound_from, canonical_from, canonical_test}
 use Rattle.stores.specs.Items.{Item, precedes, Ascends, Apart, has_dot}
-use Rattle.stores.specs.Puts.{fits_part}
 use Rattle.stores.specs.Sound.{Proper}
 use Rattle.stores.proofs.ItemOrder.{precedes_transitive, dot_equal, dot_itself}
 use Rattle.groups.specs.Groups.{Group, Known, Formed}
@@ -21,9 +20,9 @@ use Rattle.records.specs.declared.record.Origin.{Origin}
 use Rattle.records.specs.declared.record.PartEntry.{PartEntry}
 use Rattle.records.specs.declared.record.Record.{Record}
 use Rattle.records.specs.declared.record.Record.TheVariants.{Entry as of_entry, Run as of_run, Origin as of_origin}
-use Rattle.reading.specs.Faults.{bad_record, out_of_order, bad_code, stray_dot}
+use Rattle.reading.specs.Faults.{bad_record, stray_dot}
 use Rattle.records.specs.Fields.{fields_of}
-use Rattle.reading.specs.Reading.{item_in, item_follows, is_empty, entry_fault, run_fault, record_fault, among, stray, dots_of, faulty, complete, finished, scan, first_group}
+use Rattle.reading.specs.Reading.{item_in, item_follows, run_fault, record_fault, among, stray, dots_of, faulty, complete, finished, scan, first_group}
 use Rattle.records.specs.Records.{decoded, encoded, origin_in, is_origin}
 use Rattle.reading.specs.SpellingLaws.{Bytes, OneSpelling}
 use Rattle.records.specs.Written.{entry_record, records_for, written, record_count, Narrow, Writable}
@@ -31,31 +30,7 @@ use Rattle.records.proofs.Spelling.{bytes_narrow}
 use Rattle.records.proofs.Reading.{encoded_decoded, record_in_range, decoded_entry, decoded_origin}
 use Rattle.reading.proofs.Resume.{resume}
 use Rattle.reading.proofs.ReadBack.{length_records, read_back, parcel_back}
-use Rattle.reading.proofs.Stepping.{run_good, follows_canonical}
-
--- what an entry without a fault tells
-
-pub record EntryGood (ks : List ValueKind) (y : Option Item) (rs : List Run) (x : Item) : Type 0 where
-  pub placed : x.part < length ks
-  pub before_runs : rs ≡ []
-  pub follows : item_follows y x ≡ true
-  pub fits : fits_part ks x.part x.code ≡ true
-
-empty_is : {X : Type 0} (xs : List X) → is_empty xs ≡ true → xs ≡ []
-empty_is [] e = refl
-empty_is (x ∷ xs) e = absurd (false≢true e)
-
-some_inner : {A : Type 0} (b : Bool) (x : Option A) (y : A) → cond b x (Some y) ≡ None → (b ≡ true) × (x ≡ None)
-some_inner true x y e = (refl, e)
-some_inner false x y e = let z : ◌≡◌ {A = ℕ} 0 1 = cc in absurd (omega arith)
-
-entry_good : (ks : List ValueKind) (y : Option Item) (rs : List Run) (n : ℕ) (x : Item) → entry_fault ks y rs n x ≡ None → EntryGood ks y rs x
-entry_good ks y rs n x e =
-    let a = some_inner (ltb x.part (length ks)) (cond (is_empty rs && item_follows y x) (cond (fits_part ks x.part x.code) None (Some (bad_code n))) (Some (out_of_order n))) (bad_record n) e in
-    let b = some_inner (is_empty rs && item_follows y x) (cond (fits_part ks x.part x.code) None (Some (bad_code n))) (out_of_order n) a.1 in
-    let c = some_inner (fits_part ks x.part x.code) None (bad_code n) b.1 in
-    let d = and_parts (is_empty rs) (item_follows y x) b.0 in
-    record { placed = ltb-true x.part (length ks) a.0; before_runs = empty_is rs d.0; follows = d.1; fits = c.0 }
+use Rattle.reading.proofs.Stepping.{EntryGood, some_inner, entry_good, run_good, follows_canonical}
 
 -- what has been read so far
 
@@ -138,7 +113,7 @@ pub record Outcome (ks : List ValueKind) (xs : List Item) (rs : List Run) (n lef
   pub no_stray : stray g.runs [] 0 (dots_of g.items) ≡ None
 
 never : {A : Type 0} (f : Refusal) (g : Group) (o : Origin) (m : ℕ) → faulty f ≡ complete g o m → A
-never f g o m e = let z : ◌≡◌ {A = ℕ} 0 1 = cc in absurd (omega arith)
+never f g o m e = cc
 
 module _ (ks : List ValueKind) (g : Group) (o : Origin) (m : ℕ) where
   -- what is to show of a scan

@@ -1,24 +1,25 @@
 -- Reading a group record by record is the scan of its bytes.
-use Rattle.std.proofs.Common.{◌≡◌, ℕ, suc, ◌+◌, ◌-◌, ◌*◌, ◌/◌, ◌<◌, ◌≤◌, min, Bool, true, false, cond, ltb, List, [], ◌∷◌, ◌++◌, length, get_or, take, drop, replicate, Some, None, Ok, Err, Option, sym, refl, ap, ◌∙◌, subst, ap₂, ⊎_elim, arith, length-append}
+use Rattle.std.proofs.Common.{◌≡◌, ℕ, suc, ◌+◌, ◌-◌, ◌*◌, ◌/◌, ◌<◌, ◌≤◌, min, ltb, List, [], ◌∷◌, ◌++◌, length, take, drop, replicate, Some, None, Ok, Err, Option, sym, refl, ap, ◌∙◌, subst, ap₂, ⊎_elim, arith}
 use Rattle.std.proofs.lemmas.List.FromFn.{map-range_with_len_more}
-use Rattle.std.proofs.lemmas.List.{drop-drop, get_or-take, get_or-drop, map-append}
+use Rattle.std.proofs.lemmas.List.{drop-drop, map-append, length_push}
 use Rattle.std.proofs.lemmas.Bool.{cond-true, cond-false, lt-ltb, le-ltb, cases_lt}
 use Rattle.refusals.specs.declared.Refusal.{Refusal}
 use Rattle.causal.specs.declared.runs.Run.{Run}
 use Rattle.kinds.specs.Kinds.{ValueKind}
-use Rattle.causal.specs.Runs.{dot, last}
+use Rattle.causal.specs.Runs.{last}
 use Rattle.stores.specs.Items.{Item}
 use Rattle.records.specs.declared.record.Origin.{Origin}
 use Rattle.records.specs.declared.record.PartEntry.{PartEntry}
 use Rattle.records.specs.declared.record.Record.{Record}
 use Rattle.records.specs.declared.record.Record.TheVariants.{Entry as of_entry, Run as of_run, Origin as of_origin}
-use Rattle.reading.specs.Faults.{bad_record, out_of_order, stray_dot, no_origin}
-use Rattle.reading.specs.Reading.{item_in, entry_fault, record_fault, stray, dots_of, Reading, faulty, complete, scan, first_group, summary}
+use Rattle.reading.specs.Faults.{stray_dot, no_origin}
+use Rattle.reading.specs.Reading.{item_in, record_fault, stray, dots_of, Reading, faulty, complete, scan, first_group, summary}
 use Rattle.records.specs.Records.{decoded, record_at}
-use Rattle.reading.specs.Stands.{Stand, start, next_fault, next_record, moved, dot_at, dots_at, closing, entries_read, closed}
+use Rattle.reading.specs.Stands.{Stand, start, next_fault, next_record, moved, dot_in, dot_at, dots_at, closing, entries_read, closed}
 use Rattle.records.proofs.Reading.{decoded_entry}
+use Rattle.reading.proofs.Dots.{dot_cut}
 use Rattle.reading.proofs.Resume.{resume}
-use Rattle.reading.proofs.Stepping.{next_within, next_decoded}
+use Rattle.reading.proofs.Stepping.{entry_good, last_more, next_within, next_decoded}
 
 module _ (ks : List ValueKind) (bs : List ℕ) where
   -- the scan from record n on
@@ -77,43 +78,14 @@ module _ (ks : List ValueKind) (bs : List ℕ) where
     pub dots : dots_at bs (length items) ≡ dots_of items
     pub within : length items + length runs ≤ length bs / 24
 
-  pub so_far_start : SoFar (start bs)
-  so_far_start = record {
-    items = [];
-    runs = [];
-    stands = refl;
-    scans = (let e : length bs / 24 - 0 ≡ length bs / 24 = omega arith in ap (λ k. scan ks [] [] 0 k bs) e);
-    dots = refl;
-    within = omega arith;
-  }
-
-  -- an entry is read before every run
-  no_runs_yet : (y : Option Item) (rs : List Run) (n : ℕ) (x : Item) → entry_fault ks y rs n x ≡ None → rs ≡ []
-  no_runs_yet y [] n x e = refl
-  no_runs_yet y (r ∷ rs) n x e = go (ltb x.part (length ks)) e
-    where
-      go : (b : Bool) → cond b (Some (out_of_order n)) (Some (bad_record n)) ≡ None → r ∷ rs ≡ []
-      go true p = let z : ◌≡◌ {A = ℕ} 0 1 = cc in absurd (omega arith)
-      go false p = let z : ◌≡◌ {A = ℕ} 0 1 = cc in absurd (omega arith)
+  pub so_far_start : (s : Stand) → s ≡ start bs → SoFar s
+  so_far_start s e =
+      let k : length bs / 24 - 0 ≡ length bs / 24 = omega arith in
+      record { items = []; runs = []; stands = e; scans = ap (λ k. scan ks [] [] 0 k bs) k; dots = refl; within = omega arith }
 
   -- the dot of an entry that is read stands in the bytes
   dot_there : (n : ℕ) (e : PartEntry) → n < length bs / 24 → decoded (record_at n bs) ≡ Some (of_entry e) → dot_at bs n ≡ e.entry.dot
-  dot_there n e l d =
-      let b = record_there n l in
-      let in_bytes : (k : ℕ) → k < 24 → get_or (record_at n bs) k 0 ≡ get_or bs (24 * n + k) 0 = λ k h. ap (λ ws. get_or ws k 0) (sym b) ∙ get_or-take 24 (drop (24 * n) bs) k 0 h ∙ get_or-drop (24 * n) bs k 0 in
-      let p = in_bytes 2 (omega arith) in
-      let q = in_bytes 4 (omega arith) in
-      let u : 24 * n + 4 + 1 ≡ 24 * n + 5 = omega arith in
-      let r = in_bytes 5 (omega arith) ∙ ap (λ k. get_or bs k 0) (sym u) in
-      (λ i. dot (sym p i) (sym q i * 256 + sym r i)) ∙ ap (λ x. x.entry.dot) (decoded_entry (record_at n bs) e d)
-
-  length_more : {X : Type 0} (xs : List X) (x : X) → length (xs ++ (x ∷ [])) ≡ length xs + 1
-  length_more xs x = length-append xs (x ∷ [])
-
-  last_more : {X : Type 0} (xs : List X) (x : X) → last (xs ++ (x ∷ [])) ≡ Some x
-  last_more [] x = refl
-  last_more (y ∷ []) x = refl
-  last_more (y ∷ z ∷ xs) x = last_more (z ∷ xs) x
+  dot_there n e l d = sym (dot_cut bs n) ∙ ap dot_in (record_there n l) ∙ ap (λ x. x.entry.dot) (decoded_entry (record_at n bs) e d)
 
   after_entry : (xs : List Item) (e : PartEntry) → None ≡ next_fault ks (standing xs []) → Some (of_entry e) ≡ next_record (next_fault ks (standing xs [])) (standing xs [])
       → going xs [] (length xs + 0) ≡ first_group ks bs → dots_at bs (length xs) ≡ dots_of xs → SoFar (moved (standing xs []) (of_entry e))
@@ -121,7 +93,7 @@ module _ (ks : List ValueKind) (bs : List ℕ) where
       let x = item_in e in
       let l = next_within ks (standing xs []) p in
       let d = next_decoded ks (standing xs []) (of_entry e) p q in
-      let m = length_more xs x in
+      let m = length_push xs x in
       let n : length xs + 0 + 1 ≡ length (xs ++ (x ∷ [])) + 0 = omega (arith, m) in
       let z : length xs + 0 ≡ length xs = omega arith in
       let there = dot_there (length xs + 0) e l d in
@@ -138,7 +110,7 @@ module _ (ks : List ValueKind) (bs : List ℕ) where
       → going xs rs (length xs + length rs) ≡ first_group ks bs → dots_at bs (length xs) ≡ dots_of xs → SoFar (moved (standing xs rs) (of_run r))
   after_run xs rs r p q h k =
       let l = next_within ks (standing xs rs) p in
-      let m = length_more rs r in
+      let m = length_push rs r in
       let n : length xs + length rs + 1 ≡ length xs + length (rs ++ (r ∷ [])) = omega (arith, m) in
       record {
         items = xs;
@@ -150,18 +122,18 @@ module _ (ks : List ValueKind) (bs : List ℕ) where
       }
 
   -- what an entry without a fault tells
-  entry_good : (xs : List Item) (rs : List Run) (e : PartEntry) → None ≡ next_fault ks (standing xs rs) → Some (of_entry e) ≡ next_record (next_fault ks (standing xs rs)) (standing xs rs) → rs ≡ []
-  entry_good xs rs e p q =
+  none_before : (xs : List Item) (rs : List Run) (e : PartEntry) → None ≡ next_fault ks (standing xs rs) → Some (of_entry e) ≡ next_record (next_fault ks (standing xs rs)) (standing xs rs) → rs ≡ []
+  none_before xs rs e p q =
       let n = length xs + length rs in
       let s = standing xs rs in
       let d = next_decoded ks s (of_entry e) p q in
       let w = cond-true (ltb n (length bs / 24)) (record_fault ks (last xs) rs n (decoded (record_at n bs))) (Some (no_origin n)) (lt-ltb n (length bs / 24) (next_within ks s p)) in
-      no_runs_yet (last xs) rs n (item_in e) (sym (p ∙ w ∙ ap (record_fault ks (last xs) rs n) d))
+      (entry_good ks (last xs) rs n (item_in e) (sym (p ∙ w ∙ ap (record_fault ks (last xs) rs n) d))).before_runs
 
   entry_after : (xs : List Item) (rs : List Run) (e : PartEntry) → rs ≡ [] → None ≡ next_fault ks (standing xs rs) → Some (of_entry e) ≡ next_record (next_fault ks (standing xs rs)) (standing xs rs)
       → going xs rs (length xs + length rs) ≡ first_group ks bs → dots_at bs (length xs) ≡ dots_of xs → SoFar (moved (standing xs rs) (of_entry e))
   entry_after xs [] e z p q h k = after_entry xs e p q h k
-  entry_after xs (r ∷ rs) e z p q h k = let o : ◌≡◌ {A = ℕ} 0 1 = cc in absurd (omega arith)
+  entry_after xs (r ∷ rs) e z p q h k = cc
 
   module _ (s : Stand) (f : SoFar s) (p : None ≡ next_fault ks s) where
     here : None ≡ next_fault ks (standing f.items f.runs)
@@ -170,15 +142,15 @@ module _ (ks : List ValueKind) (bs : List ℕ) where
     there : (r : Record) → Some r ≡ next_record (next_fault ks s) s → Some r ≡ next_record (next_fault ks (standing f.items f.runs)) (standing f.items f.runs)
     there r q = q ∙ ap (λ t. next_record (next_fault ks t) t) f.stands
 
-    pub so_far_entry : (e : PartEntry) → Some (of_entry e) ≡ next_record (next_fault ks s) s → SoFar (moved s (of_entry e))
+    so_far_entry : (e : PartEntry) → Some (of_entry e) ≡ next_record (next_fault ks s) s → SoFar (moved s (of_entry e))
     so_far_entry e q =
         let u = there (of_entry e) q in
-        subst SoFar (ap (λ t. moved t (of_entry e)) (sym f.stands)) (entry_after f.items f.runs e (entry_good f.items f.runs e here u) here u f.scans f.dots)
+        subst SoFar (ap (λ t. moved t (of_entry e)) (sym f.stands)) (entry_after f.items f.runs e (none_before f.items f.runs e here u) here u f.scans f.dots)
 
-    pub so_far_run : (r : Run) → Some (of_run r) ≡ next_record (next_fault ks s) s → SoFar (moved s (of_run r))
+    so_far_run : (r : Run) → Some (of_run r) ≡ next_record (next_fault ks s) s → SoFar (moved s (of_run r))
     so_far_run r q = subst SoFar (ap (λ t. moved t (of_run r)) (sym f.stands)) (after_run f.items f.runs r here (there (of_run r) q) f.scans f.dots)
 
-    pub so_far_origin : length bs < 18446744073709551616 → (o : Origin) → Some (of_origin o) ≡ next_record (next_fault ks s) s → closed (moved s (of_origin o)) o ≡ summary (first_group ks bs)
+    so_far_origin : length bs < 18446744073709551616 → (o : Origin) → Some (of_origin o) ≡ next_record (next_fault ks s) s → closed (moved s (of_origin o)) o ≡ summary (first_group ks bs)
     so_far_origin small o q =
         let xs = f.items in
         let rs = f.runs in
@@ -198,23 +170,18 @@ module _ (ks : List ValueKind) (bs : List ℕ) where
         told_alike xs rs o n w (Some k) = refl
         told_alike xs rs o n w None = λ i. Ok (record { origin = o; entries = length xs; runs = length rs; length = w i })
 
-    pub so_far_less : length bs / 24 - (s.at + 1) < length bs / 24 - s.at
-    so_far_less =
-        let l = next_within ks (standing f.items f.runs) here in
-        let e : s.at ≡ length f.items + length f.runs = ap (λ t. t.at) f.stands in
-        omega (arith, l, e)
-
   pub so_far_fault : (s : Stand) (f : SoFar s) (r : Refusal) → Some r ≡ next_fault ks s → Err r ≡ summary (first_group ks bs)
   so_far_fault s f r p = ap summary (sym (going_fault f.items f.runs r (p ∙ ap (next_fault ks) f.stands)) ∙ f.scans)
 
-  -- any record but an origin
-  pub so_far_more : (s : Stand) (f : SoFar s) → None ≡ next_fault ks s → (r : Record) → ((o : Origin) → r ≡ of_origin o → ⊥) → Some r ≡ next_record (next_fault ks s) s → SoFar (moved s r)
-  so_far_more s f p (of_entry e) no_end q = so_far_entry s f p e q
-  so_far_more s f p (of_run r) no_end q = so_far_run s f p r q
-  so_far_more s f p (of_origin o) no_end q = absurd (no_end o refl)
+  -- where the reader stands at t after a record
+  module _ (s t : Stand) (f : SoFar s) (p : None ≡ next_fault ks s) (r : Record) (q : Some r ≡ next_record (next_fault ks s) s) (m : t ≡ moved s r) where
+    pub so_far_more : ((o : Origin) → r ≡ of_origin o → ⊥) → SoFar t
+    so_far_more no_end = subst SoFar (sym m) (go r q no_end)
+      where
+        go : (r : Record) → Some r ≡ next_record (next_fault ks s) s → ((o : Origin) → r ≡ of_origin o → ⊥) → SoFar (moved s r)
+        go (of_entry e) q no_end = so_far_entry s f p e q
+        go (of_run r) q no_end = so_far_run s f p r q
+        go (of_origin o) q no_end = absurd (no_end o refl)
 
--- one record further
-pub moved_on : (s : Stand) (r : Record) → (moved s r).at ≡ s.at + 1
-moved_on s (of_entry e) = refl
-moved_on s (of_run r) = refl
-moved_on s (of_origin o) = refl
+    pub so_far_end : length bs < 18446744073709551616 → (o : Origin) → r ≡ of_origin o → closed t o ≡ summary (first_group ks bs)
+    so_far_end small o e = ap (λ v. closed v o) (m ∙ ap (moved s) e) ∙ so_far_origin s f p small o (sym (ap Some e) ∙ q)

@@ -1,10 +1,8 @@
 -- Bits that are set and tested, and dots that have come.
-use Rattle.std.proofs.Common.{◌≡◌, ℕ, zero, suc, ◌+◌, ◌*◌, ◌/◌, ◌%◌, ◌^◌, ◌<◌, true, false, eqb, ◌⊎◌, List, [], ◌∷◌, map, length, get_or, set, sym, refl, ap, ◌∙◌, subst, ap₂, inl, inr, arith, get_or-set_other, get_or-set_same}
+use Rattle.std.proofs.Common.{◌≡◌, ℕ, zero, suc, ◌*◌, ◌/◌, ◌%◌, ◌^◌, ◌<◌, true, false, eqb, ◌⊎◌, List, [], ◌∷◌, ◌++◌, length, get_or, set, sym, refl, ap, ◌∙◌, ap₂, inl, inr, arith, get_or-set_other, get_or-set_same}
 use native.Mathlib.Nat.{div_self}
 use lib.Bits.{bit_and, bit_or}
-use Rattle.std.specs.List.{range_with_len}
 use Rattle.std.proofs.lemmas.Nat.{and_mask, or_shr, or_mod, or_comm, pow_pos, one_shl}
-use Rattle.std.proofs.lemmas.List.FromFn.{map-range_with_len_more}
 use Rattle.std.proofs.ByRecursion.{All-weaker, All-append}
 use Rattle.std.proofs.lemmas.Bool.{cases_Bool, cases_eq, both_ways, eq-eqb, eqb-true, or_from}
 use Rattle.causal.specs.declared.dots.Dot.{Dot}
@@ -71,8 +69,7 @@ not_come bytes d (e ∷ es) h f =
     (not_come bytes d es h.1 f)
 
 -- one dot more
-pub all_come : (f : ℕ → Dot) (i : ℕ) (old new : List ℕ) (d : Dot) → d ≡ f i → AllSet old (map f (range_with_len 0 i)) → ((bit : ℕ) → is_set old bit ≡ true → is_set new bit ≡ true) → is_set new (bit_of d) ≡ true → AllSet new (map f (range_with_len 0 (i + 1)))
-all_come f i old new d e h kept here =
-    subst (AllSet new) (sym (map-range_with_len_more f 0 i i (omega arith)))
-    (All-append (λ d. is_set new (bit_of d) ≡ true) (map f (range_with_len 0 i)) (f i ∷ [])
-    (All-weaker (λ d. is_set old (bit_of d) ≡ true) (λ d. is_set new (bit_of d) ≡ true) (λ d. kept (bit_of d)) (map f (range_with_len 0 i)) h) (ap (λ c. is_set new (bit_of c)) (sym e) ∙ here, tt))
+pub all_come : (ds : List Dot) (d : Dot) (old new : List ℕ) → AllSet old ds → ((bit : ℕ) → is_set old bit ≡ true → is_set new bit ≡ true) → is_set new (bit_of d) ≡ true → AllSet new (ds ++ (d ∷ []))
+all_come ds d old new h kept here =
+    All-append (λ d. is_set new (bit_of d) ≡ true) ds (d ∷ [])
+    (All-weaker (λ d. is_set old (bit_of d) ≡ true) (λ d. is_set new (bit_of d) ≡ true) (λ d. kept (bit_of d)) ds h) (here, tt)

@@ -10,6 +10,7 @@ use Rattle.causal.specs.Runs.{dot}
 use Rattle.kinds.specs.Kinds.{ValueKind}
 use Rattle.stores.specs.Items.{Item}
 use Rattle.reading.specs.declared.reader.GroupReader.{GroupReader}
+use Rattle.reading.specs.declared.reader.progress.Progress.{Progress}
 use Rattle.records.specs.declared.record.GroupSummary.{GroupSummary}
 use Rattle.records.specs.declared.record.Origin.{Origin}
 use Rattle.records.specs.declared.record.Record.{Record}
@@ -29,8 +30,12 @@ pub record Stand : Type 0 where
 abbrev pub start : List ℕ → Stand
 start bytes = record { bytes = bytes; at = 0; last_item = None; runs = [] }
 
+-- where a reader of these bytes stands that has come so far
+abbrev pub stand_at : List ℕ → Progress → Stand
+stand_at bytes p = record { bytes = bytes; at = p.at; last_item = option_map item_in p.last_entry; runs = runs_of p.context }
+
 abbrev pub stand_of : GroupReader → Stand
-stand_of r = record { bytes = r.bytes.now; at = r.at; last_item = option_map item_in r.last_entry; runs = runs_of r.context }
+stand_of r = stand_at r.bytes.now r.progress
 
 abbrev pub next_fault : List ValueKind → Stand → Option Refusal
 next_fault ks s =
@@ -59,7 +64,11 @@ passed s (of_entry e) = record { bytes = s.bytes; at = min (s.at + 1) 1844674407
 passed s (of_run r) = record { bytes = s.bytes; at = min (s.at + 1) 18446744073709551615; last_item = s.last_item; runs = with_run s.runs r }
 passed s (of_origin o) = record { bytes = s.bytes; at = min (s.at + 1) 18446744073709551615; last_item = s.last_item; runs = s.runs }
 
--- the dot in the bytes of record n, whatever record that is
+-- the dot in the bytes of a record, whatever record that is
+abbrev pub dot_in : List ℕ → Dot
+dot_in bytes = dot (slice_index bytes 2) (two 4 bytes)
+
+-- and in those of record n
 abbrev pub dot_at : List ℕ → ℕ → Dot
 dot_at bytes n = dot (slice_index bytes (24 * n + 2)) (two (24 * n + 4) bytes)
 

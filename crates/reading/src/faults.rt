@@ -4,7 +4,8 @@ ghost use Rattle.reading.specs.Faults.{refusal_of};
 
 use refusals::{Refusal, refuse};
 
-#[derive(Clone, Copy)]
+// Stays six variants with one number each: docs/REFUSALS.md has a number for each, which stands once, beside its variant below.
+#[derive(Clone, Copy, Debug, PartialEq, Eq)]
 pub enum GroupFault {
     // A byte or a field of the record is not as it should be.
     BadRecord(usize),
@@ -20,11 +21,11 @@ pub enum GroupFault {
     TrailingRecords(usize),
 }
 
-impl GroupFault {
-    pub fn refusal(self) -> Refusal
-        ensures { result ≡ refusal_of self }
-    {
-        match self {
+impl From<GroupFault> for Refusal {
+    ghost from_gives = { λ fault refusal. refusal ≡ refusal_of fault };
+
+    fn from(fault: GroupFault) -> Refusal {
+        match fault {
             GroupFault::BadRecord(n) => refuse(21, n as u64),
             GroupFault::OutOfOrder(n) => refuse(22, n as u64),
             GroupFault::BadCode(n) => refuse(23, n as u64),

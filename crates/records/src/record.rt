@@ -1,24 +1,18 @@
 // What a record says, and its 24 bytes.
 ghost use Rattle.std.specs.Prelude.{◌≡◌};
-ghost use Rattle.records.specs.Records.{is_origin, is_entry_record, is_run_record, is_origin_record, no_keys, origin_in, record_of, fields_for, decoded, encoded};
+ghost use Rattle.std.specs.Result.{result_ok};
+ghost use Rattle.stores.specs.Items.{item_at, precedes};
+ghost use Rattle.records.specs.Records.{is_origin, is_entry_record, is_run_record, is_origin_record, entry_in, run_in, origin_in, record_of, fields_for, decoded, encoded};
 
-use crate::fields::{Fields, read_fields, spell_fields};
+use crate::fields::Fields;
 use causal::dots::{Dot, is_replica_number};
 use causal::places::Place;
 use causal::runs::Run;
 use stores::address::is_entry_address;
 use stores::entries::Entry;
 
-// Stands where a record has no place.
-const NO_KEYS: Place = Place {
-    first: 0,
-    second: 0,
-    third: 0,
-    fourth: 0,
-};
-
 // Whose steps a group covers: those after `since`, up to `until`.
-#[derive(Clone, Copy)]
+#[derive(Clone, Copy, Debug, PartialEq, Eq)]
 pub struct Origin {
     pub sender: u8,
     pub since: u32,
@@ -26,14 +20,14 @@ pub struct Origin {
 }
 
 // An entry with its part; its value is a code.
-#[derive(Clone, Copy)]
+#[derive(Clone, Copy, Debug, PartialEq, Eq)]
 pub struct PartEntry {
     pub part: u8,
     pub entry: Entry<u64>,
 }
 
 // What a group is, once it has been read: whose steps, how many entries and runs, and how many bytes.
-#[derive(Clone, Copy)]
+#[derive(Clone, Copy, Debug, PartialEq, Eq)]
 pub struct GroupSummary {
     pub origin: Origin,
     pub entries: usize,
@@ -41,11 +35,34 @@ pub struct GroupSummary {
     pub length: usize,
 }
 
-#[derive(Clone, Copy)]
+#[derive(Clone, Copy, Debug, PartialEq, Eq)]
 pub enum Record {
     Entry(PartEntry),
     Run(Run),
     Origin(Origin),
+}
+
+// The first byte of each record.
+#[derive(Clone, Copy)]
+enum Tag {
+    Entry = 1,
+    Run = 2,
+    Origin = 3,
+}
+
+// A byte or a field is not as it should be in a record.
+#[derive(Clone, Copy, Debug, PartialEq, Eq)]
+pub struct NotARecord;
+
+impl PartEntry {
+    // Whether this entry stands before the other: by part, then by place, then by dot.
+    #[tactic(auto, unfolding(causal::specs::Dots::dot_less, causal::specs::Places::place_less, causal::specs::Places::same_place))]
+    pub fn precedes(self, other: PartEntry) -> bool
+        ensures { result ≡ precedes (item_at self.part self.entry) (item_at other.part other.entry) }
+    {
+        let (one, two) = (self.entry, other.entry);
+        (self.part, one.place, one.dot) < (other.part, two.place, two.dot)
+    }
 }
 
 impl Origin {
@@ -56,90 +73,112 @@ impl Origin {
     }
 }
 
-// The record in 24 bytes; none where a byte or a field is not as it should be.
-pub fn decode(bytes: [u8; 24]) -> Option<Record>
-    ensures { result ≡ decoded bytes }
-{
-    record_of(read_fields(bytes))
+// The record in 24 bytes.
+impl TryFrom<[u8; 24]> for Record {
+    type Error = NotARecord;
+
+    ghost try_from_gives = { λ bytes r. result_ok r ≡ decoded bytes };
+
+    fn try_from(bytes: [u8; 24]) -> Result<Record, NotARecord> {
+        Record::try_from(Fields::from(bytes))
+    }
 }
 
 // The 24 bytes of a record.
-pub fn encode(item: Record) -> [u8; 24]
-    ensures { result ≡ encoded item }
-{
-    spell_fields(fields_for(item))
+impl From<Record> for [u8; 24] {
+    ghost from_gives = { λ item bytes. bytes ≡ encoded item };
+
+    fn from(item: Record) -> [u8; 24] {
+        Fields::from(item).into()
+    }
 }
 
-fn record_of(f: Fields) -> Option<Record>
-    ensures { result ≡ record_of f }
-{
-    if is_entry_record(f) {
-        let dot = Dot {
-            replica: f.replica,
-            counter: f.low,
-        };
-        let entry = Entry {
-            place: f.place,
-            dot,
-            value: f.code,
-        };
-        return Some(Record::Entry(PartEntry {
-            part: f.part,
-            entry,
-        }));
+// The record of these fields.
+// Stays without a match on the tag: it is one of the fields that a record asks for, beside those that it asks to be 0.
+impl TryFrom<Fields> for Record {
+    type Error = NotARecord;
+
+    ghost try_from_gives = { λ f r. result_ok r ≡ record_of f };
+
+    fn try_from(f: Fields) -> Result<Record, NotARecord> {
+        if is_entry_record(f) {
+            Ok(Record::Entry(entry_in(f)))
+        } else if is_run_record(f) {
+            Ok(Record::Run(run_in(f)))
+        } else if is_origin_record(f) {
+            Ok(Record::Origin(origin_in(f)))
+        } else {
+            Err(NotARecord)
+        }
     }
-    if is_run_record(f) {
-        return Some(Record::Run(Run {
-            replica: f.replica,
-            first: f.low,
-            last: f.high,
-        }));
-    }
-    if is_origin_record(f) {
-        return Some(Record::Origin(origin_in(f)));
-    }
-    None
 }
 
+#[tactic(auto, unfolding(crate::specs::Records::is_entry_record))]
 fn is_entry_record(f: Fields) -> bool
     ensures { result ≡ is_entry_record f }
+{
+    let entry = entry_in(f).entry;
+    f.tag == Tag::Entry as u8
+        && f.spare == 0
+        && f.high == 0
+        && is_entry_address(entry.place, entry.dot)
+}
+
+#[tactic(auto, unfolding(crate::specs::Records::is_run_record))]
+fn is_run_record(f: Fields) -> bool
+    ensures { result ≡ is_run_record f }
+{
+    f.tag == Tag::Run as u8
+        && f.part == 0
+        && f.spare == 0
+        && f.place == Place::default()
+        && f.code == 0
+        && run_in(f).is_well_formed()
+}
+
+#[tactic(auto, unfolding(crate::specs::Records::is_origin_record))]
+fn is_origin_record(f: Fields) -> bool
+    ensures { result ≡ is_origin_record f }
+{
+    f.tag == Tag::Origin as u8
+        && f.part == 0
+        && f.spare == 0
+        && f.low == 0
+        && f.high == 0
+        && f.code == 0
+        && origin_in(f).is_well_formed()
+}
+
+fn entry_in(f: Fields) -> PartEntry
+    ensures { result ≡ entry_in f }
 {
     let dot = Dot {
         replica: f.replica,
         counter: f.low,
     };
-    f.tag == 1 && f.spare == 0 && f.high == 0 && is_entry_address(f.place, dot)
+    let entry = Entry {
+        place: f.place,
+        dot,
+        value: f.code,
+    };
+    PartEntry {
+        part: f.part,
+        entry,
+    }
 }
 
-fn is_run_record(f: Fields) -> bool
-    ensures { result ≡ is_run_record f }
+fn run_in(f: Fields) -> Run
+    ensures { result ≡ run_in f }
 {
-    let run = Run {
+    Run {
         replica: f.replica,
         first: f.low,
         last: f.high,
-    };
-    f.tag == 2
-        && f.part == 0
-        && f.spare == 0
-        && has_no_keys(f.place)
-        && f.code == 0
-        && run.is_well_formed()
+    }
 }
 
-fn is_origin_record(f: Fields) -> bool
-    ensures { result ≡ is_origin_record f }
-{
-    let bare = f.part == 0 && f.spare == 0 && f.low == 0 && f.high == 0 && f.code == 0;
-    f.tag == 3 && bare && origin_in(f).is_well_formed()
-}
-
-fn has_no_keys(place: Place) -> bool
-    ensures { result ≡ no_keys place }
-{
-    place.first == 0 && place.second == 0 && place.third == 0 && place.fourth == 0
-}
-
+// Both numbers have four bytes each, where an entry has its keys: two keys are the upper and the lower half of one number.
+// Stays arithmetic, here and where an origin's fields are made: the halves of a number are its quotient and remainder by 65536.
 fn origin_in(f: Fields) -> Origin
     ensures { result ≡ origin_in f }
 {
@@ -152,44 +191,47 @@ fn origin_in(f: Fields) -> Origin
     }
 }
 
-fn fields_for(item: Record) -> Fields
-    ensures { result ≡ fields_for item }
-{
-    match item {
-        Record::Entry(e) => Fields {
-            tag: 1,
-            part: e.part,
-            replica: e.entry.dot.replica,
-            spare: 0,
-            low: e.entry.dot.counter,
-            high: 0,
-            place: e.entry.place,
-            code: e.entry.value,
-        },
-        Record::Run(r) => Fields {
-            tag: 2,
-            part: 0,
-            replica: r.replica,
-            spare: 0,
-            low: r.first,
-            high: r.last,
-            place: NO_KEYS,
-            code: 0,
-        },
-        Record::Origin(o) => Fields {
-            tag: 3,
-            part: 0,
-            replica: o.sender,
-            spare: 0,
-            low: 0,
-            high: 0,
-            place: Place {
-                first: (o.since / 65536) as u16,
-                second: (o.since % 65536) as u16,
-                third: (o.until / 65536) as u16,
-                fourth: (o.until % 65536) as u16,
+// The fields of a record.
+impl From<Record> for Fields {
+    ghost from_gives = { λ item f. f ≡ fields_for item };
+
+    fn from(item: Record) -> Fields {
+        match item {
+            Record::Entry(e) => Fields {
+                tag: Tag::Entry as u8,
+                part: e.part,
+                replica: e.entry.dot.replica,
+                spare: 0,
+                low: e.entry.dot.counter,
+                high: 0,
+                place: e.entry.place,
+                code: e.entry.value,
             },
-            code: 0,
-        },
+            Record::Run(r) => Fields {
+                tag: Tag::Run as u8,
+                part: 0,
+                replica: r.replica,
+                spare: 0,
+                low: r.first,
+                high: r.last,
+                place: Place::default(),
+                code: 0,
+            },
+            Record::Origin(o) => Fields {
+                tag: Tag::Origin as u8,
+                part: 0,
+                replica: o.sender,
+                spare: 0,
+                low: 0,
+                high: 0,
+                place: Place {
+                    first: (o.since / 65536) as u16,
+                    second: (o.since % 65536) as u16,
+                    third: (o.until / 65536) as u16,
+                    fourth: (o.until % 65536) as u16,
+                },
+                code: 0,
+            },
+        }
     }
 }

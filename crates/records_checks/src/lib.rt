@@ -1,4 +1,4 @@
-// Tests of the crate records. What is expected was worked out by hand from the rules in docs/GROUPS.md.
+// Tests of reading groups from their records. What is expected was worked out by hand from the rules in docs/GROUPS.md.
 #![tactic(auto)]
 
 #[cfg(test)]

@@ -2,6 +2,7 @@
 use reading::faults::GroupFault;
 use reading::reader::group::{read_first_group, read_parcel};
 use records::record::GroupSummary;
+use refusals::Refusal;
 use site_books::site_book::SiteBook;
 
 pub const ENTRY_POWER: [u8; 24] = [
@@ -20,46 +21,20 @@ pub const ORIGIN: [u8; 24] = [
     3, 0, 1, 0, 0, 0, 0, 0, 0, 0, 0, 0, 0, 0, 0, 1, 0, 0, 0, 0, 0, 0, 0, 0,
 ];
 
-// Up to five records, end to end.
-#[derive(Clone, Copy)]
-pub struct Bytes {
-    pub all: [u8; 120],
-    pub length: usize,
-}
-
-pub fn laid_out(records: &[[u8; 24]]) -> Bytes {
-    let mut all = [0; 120];
-    let count = records.len().min(5);
-    for i in 0..count {
-        for j in 0..24 {
-            all[24 * i + j] = records[i][j];
-        }
-    }
-    Bytes {
-        all,
-        length: 24 * count,
-    }
-}
-
 pub fn sample() -> [[u8; 24]; 4] {
     [ENTRY_POWER, ENTRY_LINES, RUN, ORIGIN]
 }
 
-// The number and place of a fault; 0 and the length where there is none.
-fn said(answer: Result<GroupSummary, GroupFault>) -> (u8, u64) {
-    match answer {
-        Ok(group) => (0, group.length as u64),
-        Err(fault) => {
-            let refusal = fault.refusal();
-            (refusal.number, refusal.place)
-        }
-    }
+// The length of the group that these records are, end to end, or the refusal.
+pub fn as_parcel(records: &[[u8; 24]]) -> Result<usize, Refusal> {
+    said(read_parcel::<SiteBook<'static>>(records.as_flattened()))
 }
 
-pub fn as_parcel(bytes: &[u8]) -> (u8, u64) {
-    said(read_parcel::<SiteBook<'static>>(bytes))
-}
-
-pub fn as_journal(bytes: &[u8]) -> (u8, u64) {
+// The length of the first group in these bytes, or the refusal.
+pub fn as_journal(bytes: &[u8]) -> Result<usize, Refusal> {
     said(read_first_group::<SiteBook<'static>>(bytes))
+}
+
+fn said(answer: Result<GroupSummary, GroupFault>) -> Result<usize, Refusal> {
+    Ok(answer?.length)
 }

@@ -1,7 +1,7 @@
 // A whole group.
-ghost use Rattle.std.specs.Prelude.{◌≡◌, ◌≤◌};
+ghost use Rattle.std.specs.Prelude.{◌≡◌};
 ghost use Rattle.reading.specs.Reading.{summary, told, first_group, parcel_group};
-ghost use Rattle.reading.specs.Stands.{stand_of, closed};
+ghost use Rattle.reading.specs.Stands.{stand_of, closed, entries_read};
 
 use crate::faults::GroupFault;
 use crate::reader::GroupReader;
@@ -15,13 +15,8 @@ pub fn read_first_group<S: DotStore>(journal: &[u8]) -> Result<GroupSummary, Gro
 {
     let mut reader = GroupReader::new(journal);
     loop {
-        match reader.next_record::<S>() {
-            Err(fault) => return Err(fault),
-            Ok(item) => {
-                if let Record::Origin(origin) = item {
-                    return reader.close(origin);
-                }
-            }
+        if let Record::Origin(origin) = reader.next_record::<S>()? {
+            return reader.close(origin);
         }
     }
 }
@@ -43,16 +38,25 @@ impl GroupReader<'_> {
     fn close(&self, origin: Origin) -> Result<GroupSummary, GroupFault>
         ensures { told result ≡ closed (stand_of self.now) origin }
     {
-        let runs = self.context.run_count();
-        let entries = self.at.saturating_sub(runs + 1).min(self.bytes.len() / 24);
-        if let Some(index) = first_stray(self.bytes, entries, &self.context) {
+        let (records, _) = self.bytes.as_chunks::<24>();
+        let entries = self.entry_count();
+        if let Some(index) = first_stray(&records[..entries], &self.progress.context) {
             return Err(GroupFault::StrayDot(index));
         }
         Ok(GroupSummary {
             origin,
             entries,
-            runs,
-            length: self.at.saturating_mul(24),
+            runs: self.progress.context.run_count(),
+            length: self.progress.at.saturating_mul(24),
         })
+    }
+
+    // How many records before the origin are no runs.
+    fn entry_count(&self) -> usize
+        ensures { result ≡ entries_read (stand_of self.now) }
+    {
+        let runs = self.progress.context.run_count();
+        let others = self.progress.at.saturating_sub(runs + 1);
+        others.min(self.bytes.len() / 24)
     }
 }

@@ -1,34 +1,26 @@
-use Rattle.std.proofs.Common.{◌≡◌, ◌<◌, length, Some, sym, ap, ◌∙◌, subst, arith}
-use Rattle.reading.specs.Stands.{stand_of, closed, moved}
-use Rattle.reading.proofs.Scans.{SoFar, so_far_start, so_far_fault, so_far_origin, so_far_less, so_far_more, moved_on}
+use Rattle.std.proofs.Common.{◌≡◌, Err, ◌∙◌, arith, rules}
+use Rattle.reading.specs.Stands.{stand_of}
+use Rattle.reading.proofs.Scans.{so_far_start, so_far_fault, so_far_end, so_far_more}
 use Rattle.reading.specs.Faults.{refusal_of}
+use Rattle.reading.specs.Reading.{summary, first_group}
 use Rattle.reading.proofs.reader.group.read_first_group.Goals as goal
 
-pub loop-fault-init : goal.loop-fault-init
-loop-fault-init g c = subst (SoFar g.S.DotStore.kinds c.args.journal.now) (sym c.new-reader.ensures) (so_far_start g.S.DotStore.kinds c.args.journal.now)
+pub loop-origin-init : goal.loop-origin-init
+loop-origin-init g c = so_far_start g.S.DotStore.kinds c.args.journal.now (stand_of c.new-reader.result) c.new-reader.ensures
 
-pub returns-in-Err : goal.returns-in-Err
-returns-in-Err g c = so_far_fault g.S.DotStore.kinds c.args.journal.now (stand_of c.loop-fault.reader) c.loop-fault.invariant (refusal_of c.in-Err.fault) c.in-Err.ensures.answer
+pub returns-in_err-origin : goal.returns-in_err-origin
+returns-in_err-origin g c =
+    let f = refusal_of c.in_err-origin.field-0.0 in
+    let told : Err f ≡ summary (first_group g.S.DotStore.kinds c.args.journal.now) = so_far_fault g.S.DotStore.kinds c.args.journal.now (stand_of c.loop-origin.reader) c.loop-origin.invariant f c.in_err-origin.ensures.answer in
+    search rules
 
 pub returns-in-Origin : goal.returns-in-Origin
 returns-in-Origin g c =
-    let p = c.in-Ok.ensures in
-    let s = stand_of c.loop-fault.reader in
-    let o = c.in-Origin.origin in
-    let small : length c.args.journal.now < 18446744073709551616 = omega arith in
-    c.close.ensures ∙ ap (λ t. closed t o) (p.after ∙ ap (λ r. moved s r) c.in-Origin.is)
-    ∙ so_far_origin g.S.DotStore.kinds c.args.journal.now s c.loop-fault.invariant p.answer small o (sym (ap Some c.in-Origin.is) ∙ p.found)
+    let p = c.in_ok-origin.ensures in
+    c.close.ensures
+    ∙ so_far_end g.S.DotStore.kinds c.args.journal.now (stand_of c.loop-origin.reader) (stand_of c.next_record.new.self) c.loop-origin.invariant p.answer c.in_ok-origin.field-0 p.found p.after (omega arith) c.in-Origin.origin c.in-Origin.is
 
-pub loop-fault-smaller : goal.loop-fault-smaller
-loop-fault-smaller g c =
-    let p = c.in-Ok.ensures in
-    let s = stand_of c.loop-fault.reader in
-    let e : c.next_record.new.self.at ≡ (moved s c.in-Ok.item).at = ap (λ t. t.at) p.after in
-    omega (arith, e, moved_on s c.in-Ok.item, so_far_less g.S.DotStore.kinds c.args.journal.now s c.loop-fault.invariant p.answer)
-
-pub loop-fault-preserved : goal.loop-fault-preserved
-loop-fault-preserved g c =
-    let p = c.in-Ok.ensures in
-    let s = stand_of c.loop-fault.reader in
-    subst (SoFar g.S.DotStore.kinds c.args.journal.now) (sym p.after)
-    (so_far_more g.S.DotStore.kinds c.args.journal.now s c.loop-fault.invariant p.answer c.in-Ok.item c.in_default.not-Origin p.found)
+pub loop-origin-preserved : goal.loop-origin-preserved
+loop-origin-preserved g c =
+    let p = c.in_ok-origin.ensures in
+    so_far_more g.S.DotStore.kinds c.args.journal.now (stand_of c.loop-origin.reader) (stand_of c.next_record.new.self) c.loop-origin.invariant p.answer c.in_ok-origin.field-0 p.found p.after c.in_default.not-Origin

@@ -1,7 +1,0 @@
-use Rattle.std.proofs.Common.{ap, ◌∙◌}
-use Rattle.reading.specs.Seen.{is_set}
-use Rattle.reading.proofs.Seen.{tested}
-use Rattle.reading.proofs.reader.seen.may_have_come.Goals as goal
-
-pub returns : goal.returns
-returns c = tested c.args.seen.now c.bit_of-bit.result ∙ ap (is_set c.args.seen.now) c.bit_of-bit.ensures.same

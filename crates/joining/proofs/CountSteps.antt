@@ -1,16 +1,15 @@
 -- How many items a part has after a join.
-use Rattle.std.proofs.Common.{◌≡◌, ℕ, suc, ◌+◌, ◌-◌, ◌<◌, ◌≤◌, Bool, true, false, cond, not, ◌&&◌, ltb, List, [], ◌∷◌, length, get_or, drop, is_some, Some, None, filter, Option, sym, refl, ap, ◌∙◌, ap₂, arith}
-use Rattle.std.specs.List.{slice_get}
-use Rattle.std.proofs.lemmas.List.{at_drop_all}
-use Rattle.std.proofs.lemmas.Bool.{cond-true, cond-false, lt-ltb, le-ltb, eq-eqb, ne_eqb, and_from, and_left, and_right}
+use Rattle.std.proofs.Common.{◌≡◌, ℕ, zero, suc, ◌+◌, ◌-◌, ◌<◌, ◌≤◌, Bool, true, false, cond, not, ◌&&◌, ltb, List, [], ◌∷◌, map, length, get_or, drop, is_some, Some, None, filter, Option, sym, refl, ap, ◌∙◌, ap₂, arith}
+use Rattle.std.specs.List.{AllWithin, HoldsAt}
+use Rattle.std.specs.Option.{MatchOption}
+use Rattle.std.proofs.lemmas.Bool.{cond-true, cond-false, lt-ltb, le-ltb}
 use Rattle.std.proofs.ByRecursion.{All-get_or}
-use Rattle.causal.specs.declared.runs.Run.{Run}
 use Rattle.kinds.specs.Kinds.{ValueKind}
 use Rattle.causal.specs.Runs.{has}
-use Rattle.stores.specs.Items.{Item, stands, find, in_part, count_part}
+use Rattle.stores.specs.declared.entries.Entry.{Entry}
+use Rattle.stores.specs.Items.{Item, entry_of, stands, find, in_part, count_part}
 use Rattle.stores.specs.Sound.{Roomy, most_entries}
 use Rattle.stores.proofs.Stays.{count_first, count_insert}
-use Rattle.stores.proofs.Walking.{drop_nth}
 use Rattle.groups.specs.Groups.{Group, meet, settle, stays, comes, lead, keep, insert_items, joined}
 use Rattle.groups.proofs.Meets.{meet_recodes}
 use Rattle.joining.specs.Questions.{struck, arrives, overfull_from, elsewhere, elsewhere_from}
@@ -83,31 +82,50 @@ overfull_later caps xs n p l f =
 pub overfull_past : (caps : List ℕ) (xs : List Item) (n p : ℕ) → n ≤ p → None ≡ overfull_from caps xs (n - p) p
 overfull_past caps xs n p l = let e : n - p ≡ 0 = omega arith in sym (ap (λ m. overfull_from caps xs m p) e)
 
--- the walk over the group's items
+-- the group's items whose dots stand elsewhere
 
-module _ (xs ys : List Item) (i : ℕ) where
-  pub elsewhere_here : (y : Item) → i < length ys → Some y ≡ slice_get ys i → elsewhere xs y ≡ true → Some i ≡ elsewhere_from xs i (drop i ys)
-  elsewhere_here y l e t = sym (ap (elsewhere_from xs i) (drop_nth ys i y l e) ∙ cond-true (elsewhere xs y) (Some i) (elsewhere_from xs (i + 1) (drop (i + 1) ys)) t)
+module _ (xs : List Item) where
+  abbrev Displaced : Item → Type 0
+  Displaced y = elsewhere xs y ≡ true
 
-  pub elsewhere_later : (y : Item) → i < length ys → Some y ≡ slice_get ys i → elsewhere xs y ≡ false → elsewhere_from xs (i + 1) (drop (i + 1) ys) ≡ elsewhere_from xs i (drop i ys)
-  elsewhere_later y l e f = sym (ap (elsewhere_from xs i) (drop_nth ys i y l e) ∙ cond-false (elsewhere xs y) (Some i) (elsewhere_from xs (i + 1) (drop (i + 1) ys)) f)
+  abbrev InPlace : Item → Type 0
+  InPlace y = elsewhere xs y ≡ false
 
-  pub elsewhere_past : length ys ≤ i → None ≡ elsewhere_from xs i (drop i ys)
-  elsewhere_past l = sym (at_drop_all (elsewhere_from xs i) ys i l)
+  none_elsewhere : (n : ℕ) (ys : List Item) → AllWithin InPlace ys 0 (length ys) → None ≡ elsewhere_from xs n ys
+  none_elsewhere n [] h = refl
+  none_elsewhere n (y ∷ ys) h =
+      none_elsewhere (n + 1) ys (λ k d l u. h (suc k) d (omega arith) (omega arith))
+      ∙ sym (cond-false (elsewhere xs y) (Some n) (elsewhere_from xs (n + 1) ys) (h 0 y (omega arith) (omega arith)))
+
+  one_elsewhere : (n i : ℕ) (ys : List Item) → i < length ys → HoldsAt Displaced ys i → AllWithin InPlace ys 0 i → Some (n + i) ≡ elsewhere_from xs n ys
+  one_elsewhere n i [] l t h = absurd (omega arith)
+  one_elsewhere n zero (y ∷ ys) l t h = let e : n + 0 ≡ n = omega arith in ap Some e ∙ sym (cond-true (elsewhere xs y) (Some n) (elsewhere_from xs (n + 1) ys) (t y))
+  one_elsewhere n (suc i) (y ∷ ys) l t h =
+      let e : n + suc i ≡ n + 1 + i = omega arith in
+      ap Some e ∙ one_elsewhere (n + 1) i ys (omega arith) (λ d. t d) (λ k d a u. h (suc k) d (omega arith) (omega arith))
+      ∙ sym (cond-false (elsewhere xs y) (Some n) (elsewhere_from xs (n + 1) ys) (h 0 y (omega arith) (omega arith)))
+
+  all_told : (ys : List Item) (r : Option ℕ) → MatchOption r (AllWithin InPlace ys 0 (length ys)) (λ i. (i < length ys) × HoldsAt Displaced ys i × AllWithin InPlace ys 0 i) → r ≡ elsewhere_from xs 0 ys
+  all_told ys None h = none_elsewhere 0 ys h
+  all_told ys (Some i) h = let e : i ≡ 0 + i = omega arith in ap Some e ∙ one_elsewhere 0 i ys h.0 h.1 h.2
+
+  pub first_told : (ys : List Item) (n : ℕ) (r : Option ℕ) → n ≡ 0
+      → MatchOption r (AllWithin InPlace (drop n ys) 0 (length (drop n ys))) (λ i. (i < length (drop n ys)) × HoldsAt Displaced (drop n ys) i × AllWithin InPlace (drop n ys) 0 i) → r ≡ elsewhere_from xs 0 ys
+  first_told ys n r z h = all_told (drop n ys) r h ∙ ap (λ m. elsewhere_from xs 0 (drop m ys)) z
 
 -- who arrives
 
-pub arrives_yes : (rs : List Run) (p : ℕ) (y : Item) → y.part ≡ p → has rs y.dot ≡ false → arrives rs p y ≡ true
-unfolding arrives
-arrives_yes rs p y e f = and_from (in_part p y) (not (has rs y.dot)) (eq-eqb y.part p e) (ap not f)
-
-pub arrives_known : (rs : List Run) (p : ℕ) (y : Item) → has rs y.dot ≡ true → arrives rs p y ≡ false
-unfolding arrives
-arrives_known rs p y t = and_right (in_part p y) (not (has rs y.dot)) (ap not t)
-
-pub arrives_other : (rs : List Run) (p : ℕ) (y : Item) → (y.part ≡ p → ⊥) → arrives rs p y ≡ false
-unfolding arrives
-arrives_other rs p y n = and_left (in_part p y) (not (has rs y.dot)) (ne_eqb y.part p n)
-
 pub capacity_small : (ks : List ValueKind) (caps : List ℕ) (p : ℕ) → Roomy ks caps → p < length ks → get_or caps p 0 ≤ most_entries
 capacity_small ks caps p r l = let e = r.even in All-get_or (λ n. n ≤ most_entries) caps p 0 (omega arith) r.small
+
+-- the entries of a part that a group spares, counted among the entries that a store gives
+pub spared_each : (h : Group) (xs : List Item) → length (filter (λ (e : Entry ℕ). not (struck h e.dot)) (map entry_of xs)) ≡ length (filter (spared h) xs)
+spared_each h [] = refl
+spared_each h (x ∷ xs) = go (spared h x) (spared_each h xs)
+  where
+    rest : List (Entry ℕ)
+    rest = filter (λ (e : Entry ℕ). not (struck h e.dot)) (map entry_of xs)
+
+    go : (b : Bool) → length rest ≡ length (filter (spared h) xs) → length (cond b (entry_of x ∷ rest) rest) ≡ length (cond b (x ∷ filter (spared h) xs) (filter (spared h) xs))
+    go true e = ap suc e
+    go false e = e

@@ -213,9 +213,9 @@ all_nth P [] i y a e = absurd (some_none e)
 all_nth P (z ∷ zs) zero y a e = subst P (sym (some_same y z e)) a.0
 all_nth P (z ∷ zs) (suc i) y a e = all_nth P zs i y a.1 e
 
-module _ (ks : List ValueKind) (rs : List Run) (caps : List ℕ) (xs ys : List Item) (i : ℕ) (p : ℕ) (e : Entry ℕ) (l : i < length ys) (here : Some (item_at p e) ≡ slice_get ys i) where
+module _ (ks : List ValueKind) (rs : List Run) (caps : List ℕ) (xs ys : List Item) (i : ℕ) (p : ℕ) (e : Entry ℕ) (here : Some (item_at p e) ≡ slice_get ys i) where
   next : enter_all ks rs xs (drop i ys) ≡ enter_all ks rs (enter ks rs (item_at p e) xs) (drop (i + 1) ys)
-  next = ap (enter_all ks rs xs) (drop_nth ys i (item_at p e) l here)
+  next = ap (enter_all ks rs xs) (drop_nth ys i (item_at p e) here)
 
   pub enter_put : AllByRecursion (Proper ks) ys → ((q : ℕ) → count_part q (enter_all ks rs xs (drop i ys)) ≤ get_or caps q 0) → shut rs e.dot xs ≡ false
       → enter_all ks rs (put_after ks caps xs p e) (drop (i + 1) ys) ≡ enter_all ks rs xs (drop i ys)

@@ -12,7 +12,8 @@ use Rattle.stores.proofs.Stays.{some_none, count_first, all_placed}
 use Rattle.stores.proofs.Lookups.{some_same}
 use Rattle.groups.specs.Groups.{Group, Formed, joined}
 use Rattle.groups.proofs.Joins.{joined_formed}
-use Rattle.joining.specs.Questions.{book, overfull_from, overfull, fitting_union}
+use Rattle.sources.specs.Sources.{book}
+use Rattle.joining.specs.Questions.{overfull_from, overfull, fitting_union}
 use Rattle.joining.specs.Strikes.{remaining}
 use Rattle.joining.specs.Entering.{enter_all}
 use Rattle.joining.specs.Outcomes.{first_refusal, outcome_refusal, too_many_runs, unless, after_join}
@@ -51,13 +52,6 @@ union_made rs qs us e = go (too_many (union rs qs)) refl e
     go : (b : Bool) → too_many (union rs qs) ≡ b → Some us ≡ cond b None (Some (union rs qs)) → (us ≡ union rs qs) × (too_many (union rs qs) ≡ false)
     go true k e = absurd (some_none e)
     go false k e = (some_same us (union rs qs) e, k)
-
-pub union_missed : (rs qs : List Run) → None ≡ fitting_union rs qs → too_many (union rs qs) ≡ true
-union_missed rs qs e = go (too_many (union rs qs)) refl e
-  where
-    go : (b : Bool) → too_many (union rs qs) ≡ b → None ≡ cond b None (Some (union rs qs)) → too_many (union rs qs) ≡ true
-    go true k e = k
-    go false k e = absurd (some_none (sym e))
 
 pub nothing_wrong : (ks : List ValueKind) (caps : List ℕ) (all : Group) → overfull ks caps all.items ≡ None → too_many all.runs ≡ false → outcome_refusal ks caps all ≡ None
 nothing_wrong ks caps all e f = ap (λ o. first_refusal o all) e ∙ cond-false (too_many all.runs) (Some too_many_runs) None f

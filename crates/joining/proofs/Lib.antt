@@ -4,6 +4,3 @@ pub mod RunLists
 pub mod EnterSteps
 pub mod CountSteps
 pub mod Finish
-pub mod Parts
-pub mod LaidOut
-pub mod ReadGroups

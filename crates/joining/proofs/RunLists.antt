@@ -1,9 +1,10 @@
 -- Runs that are added one after another, in their order.
-use Rattle.std.proofs.Common.{◌≡◌, ℕ, zero, suc, ◌+◌, ◌<◌, ◌≤◌, Bool, true, ◌||◌, List, [], ◌∷◌, ◌++◌, length, get_or, take, Some, None, sym, refl, ap, ◌∙◌, subst, arith, length-take}
+use Rattle.std.proofs.Common.{◌≡◌, ℕ, zero, suc, ◌+◌, ◌<◌, ◌≤◌, true, ◌||◌, List, [], ◌∷◌, ◌++◌, length, get_or, take, Some, None, sym, refl, ap, ◌∙◌, subst, arith, length-take}
 use Rattle.std.specs.List.{slice_get}
 use Rattle.std.proofs.lemmas.List.{take_more}
 use Rattle.std.proofs.lemmas.Option.{slice_get-get_or}
 use Rattle.std.proofs.lemmas.Bool.{cond-true, cond-false, le-ltb}
+use Rattle.std.proofs.Math.Bool.{or_assoc}
 use Rattle.causal.specs.declared.dots.Dot.{Dot}
 use Rattle.causal.specs.declared.runs.Run.{Run}
 use Rattle.contexts.specs.Contexts.{most_runs, too_many, with_run}
@@ -25,12 +26,9 @@ last_sound : (rs : List Run) (r : Run) → Canonical (rs ++ (r ∷ [])) → Soun
 last_sound [] r h = h.0
 last_sound (q ∷ rs) r h = last_sound rs r h.2
 
-or_assoc : (a b c : Bool) → (a || (b || c)) ≡ ((a || b) || c)
-or_assoc a b c = grind arith
-
 has_after : (rs : List Run) (r : Run) (d : Dot) → has (rs ++ (r ∷ [])) d ≡ (has rs d || has (r ∷ []) d)
 has_after [] r d = refl
-has_after (q ∷ rs) r d = ap (λ b. in_run q d || b) (has_after rs r d) ∙ or_assoc (in_run q d) (has rs d) (has (r ∷ []) d)
+has_after (q ∷ rs) r d = ap (λ b. in_run q d || b) (has_after rs r d) ∙ sym (or_assoc (in_run q d) (has rs d) (has (r ∷ []) d))
 
 union_last : (rs : List Run) (r : Run) → Canonical rs → Canonical (rs ++ (r ∷ [])) → union rs (r ∷ []) ≡ rs ++ (r ∷ [])
 union_last rs r hr ha =

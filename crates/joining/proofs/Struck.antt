@@ -1,19 +1,18 @@
 -- What a group strikes, and what the strikes leave.
-use Rattle.std.proofs.Common.{◌≡◌, ℕ, zero, suc, ◌+◌, ◌-◌, ◌<◌, ◌≤◌, Bool, true, false, cond, not, ◌&&◌, List, [], ◌∷◌, ◌++◌, length, take, drop, Some, None, filter, sym, refl, ap, ◌∙◌, subst, ap₂, inl, inr, arith}
+use Rattle.std.proofs.Common.{◌≡◌, ℕ, zero, suc, ◌+◌, ◌-◌, ◌<◌, ◌≤◌, Bool, true, false, cond, not, ◌&&◌, List, [], ◌∷◌, ◌++◌, length, take, drop, Some, None, filter, sym, refl, ap, ◌∙◌, subst, ap₂, arith}
 use Rattle.std.specs.List.{slice_get, AllByRecursion}
 use Rattle.std.proofs.lemmas.List.Elements.{filter-append}
 use Rattle.std.proofs.ByRecursion.{all_kept_by, All-weaker}
 use Rattle.std.proofs.lemmas.List.{take-append-drop, drop_all, length-take}
-use Rattle.std.proofs.lemmas.Option.{slice_get_past}
-use Rattle.std.proofs.lemmas.Bool.{cond-true, cond-false, cond_both, cases_lt, eq-eqb}
+use Rattle.std.proofs.lemmas.Bool.{cond-true, cond-false, cond_both, eq-eqb}
 use Rattle.causal.specs.declared.dots.Dot.{Dot}
 use Rattle.causal.specs.Runs.{has}
 use Rattle.stores.specs.Items.{Item, has_dot, stands, in_part, strike_items}
 use Rattle.stores.proofs.ItemOrder.{dot_equal, dot_itself}
 use Rattle.stores.proofs.Held.{lacks}
-use Rattle.stores.proofs.Stays.{some_none}
-use Rattle.stores.proofs.Walking.{drop_nth, nth_within}
+use Rattle.stores.proofs.Walking.{drop_nth, drop_past}
 use Rattle.groups.specs.Groups.{Group}
+use Rattle.sources.proofs.Lists.{kept_same, kept_all}
 use Rattle.joining.specs.Questions.{struck}
 use Rattle.joining.specs.Strikes.{spared, remaining, Unstruck}
 
@@ -26,14 +25,6 @@ unfolding struck
 struck_unknown h d k = sym (ap (λ a. a && not (stands d h.items)) k)
 
 -- filters
-
-pub kept_same : (f g : Item → Bool) (xs : List Item) → AllByRecursion (λ x. f x ≡ g x) xs → filter f xs ≡ filter g xs
-kept_same f g [] h = refl
-kept_same f g (x ∷ xs) h = ap₂ (λ b zs. cond b (x ∷ zs) zs) h.0 (kept_same f g xs h.1)
-
-pub kept_all : (f : Item → Bool) (xs : List Item) → AllByRecursion (λ x. f x ≡ true) xs → filter f xs ≡ xs
-kept_all f [] h = refl
-kept_all f (x ∷ xs) h = cond-true (f x) (x ∷ filter f xs) (filter f xs) h.0 ∙ ap (λ zs. x ∷ zs) (kept_all f xs h.1)
 
 two_tests : (f g : Item → Bool) (x : Item) (xs : List Item) (a b : Bool) → g x ≡ a → f x ≡ b → filter f (filter g xs) ≡ filter (λ y. g y && f y) xs
     → filter f (cond a (x ∷ filter g xs) (filter g xs)) ≡ cond (a && b) (x ∷ filter (λ y. g y && f y) xs) (filter (λ y. g y && f y) xs)
@@ -85,38 +76,35 @@ drop_tail h i [] vs l f = free_drop h i vs f
 drop_tail h zero (u ∷ us) vs l f = absurd (omega arith)
 drop_tail h (suc i) (u ∷ us) vs l f = drop_tail h i us vs (omega arith) f
 
-pub strike_tail : (h : Group) (d : Dot) (zs : List Item) (i : ℕ) (z : Item) → i < length zs → Some z ≡ slice_get zs i → has_dot d z ≡ true → Free h (drop (i + 1) zs) → Free h (drop i (strike_items d zs))
-strike_tail h d zs i z l e t f =
+pub strike_tail : (h : Group) (d : Dot) (zs : List Item) (i : ℕ) (z : Item) → Some z ≡ slice_get zs i → has_dot d z ≡ true → Free h (drop (i + 1) zs) → Free h (drop i (strike_items d zs))
+strike_tail h d zs i z e t f =
     let us = strike_items d (take i zs) in
     let vs = strike_items d (drop (i + 1) zs) in
     let front : take i zs ++ drop i zs ≡ zs = take-append-drop i zs in
-    let here : drop i zs ≡ z ∷ drop (i + 1) zs = drop_nth zs i z l e in
+    let here : drop i zs ≡ z ∷ drop (i + 1) zs = drop_nth zs i z e in
     let gone : strike_items d (drop i zs) ≡ vs = ap (strike_items d) here ∙ cond-false (lacks d z) (z ∷ vs) vs (ap not t) in
     let whole : us ++ vs ≡ strike_items d zs = ap (λ ws. us ++ ws) (sym gone) ∙ sym (filter-append (lacks d) (take i zs) (drop i zs)) ∙ ap (strike_items d) front in
     let s = kept_short (lacks d) (take i zs) in
     let m = length-take i zs in
     subst (λ ws. Free h (drop i ws)) whole (drop_tail h i us vs (omega arith) (all_kept_by (lacks d) (λ x. struck h x.dot ≡ false) (drop (i + 1) zs) f))
 
-pub free_more : (h : Group) (zs : List Item) (i : ℕ) (z : Item) → i < length zs → Some z ≡ slice_get zs i → struck h z.dot ≡ false → Free h (drop (i + 1) zs) → Free h (drop i zs)
-free_more h zs i z l e s f = subst (Free h) (sym (drop_nth zs i z l e)) (s, f)
+pub free_more : (h : Group) (zs : List Item) (i : ℕ) (z : Item) → Some z ≡ slice_get zs i → struck h z.dot ≡ false → Free h (drop (i + 1) zs) → Free h (drop i zs)
+free_more h zs i z e s f = subst (Free h) (sym (drop_nth zs i z e)) (s, f)
 
 pub free_past : (h : Group) (zs : List Item) (i : ℕ) → None ≡ slice_get zs i → Free h (drop i zs)
-free_past h zs i e = elim (cases_lt i (length zs)) [ inl l ↦ absurd (nth_within zs i l e) | inr g ↦ subst (Free h) (sym (drop_all i zs g)) tt ]
+free_past h zs i e = subst (Free h) (sym (drop_past zs i e)) tt
 
 pub free_end : (h : Group) (zs : List Item) (i : ℕ) → length zs ≤ i → Free h (drop i zs)
 free_end h zs i g = subst (Free h) (sym (drop_all i zs g)) tt
-
-within : (zs : List Item) (i : ℕ) (z : Item) → Some z ≡ slice_get zs i → i < length zs
-within zs i z e = elim (cases_lt i (length zs)) [ inl l ↦ l | inr g ↦ absurd (some_none (e ∙ slice_get_past zs i g)) ]
 
 -- one turn of the walk, in a part of a list
 module _ (h : Group) (p : ℕ) (xs : List Item) (i : ℕ) (z : Item) (e : Some z ≡ slice_get (filter (in_part p) xs) i) (f : Free h (drop (i + 1) (filter (in_part p) xs))) where
   pub turn_struck : Free h (drop i (filter (in_part p) (strike_items z.dot xs)))
   turn_struck = subst (λ ws. Free h (drop i ws)) (sym (kept_turned (in_part p) (lacks z.dot) xs))
-      (strike_tail h z.dot (filter (in_part p) xs) i z (within (filter (in_part p) xs) i z e) e (dot_itself z.dot) f)
+      (strike_tail h z.dot (filter (in_part p) xs) i z e (dot_itself z.dot) f)
 
   pub turn_spared : struck h z.dot ≡ false → Free h (drop i (filter (in_part p) xs))
-  turn_spared s = free_more h (filter (in_part p) xs) i z (within (filter (in_part p) xs) i z e) e s f
+  turn_spared s = free_more h (filter (in_part p) xs) i z e s f
 
 -- once no part has an item that is struck, nothing is left to strike
 pub all_free : (h : Group) (n : ℕ) (xs : List Item) → AllByRecursion (λ x. x.part < n) xs → ((q : ℕ) → q < n → Unstruck h q xs) → Free h xs

@@ -1,6 +1,4 @@
-pub mod Sources
 pub mod Questions
 pub mod Strikes
 pub mod Entering
 pub mod Outcomes
-pub mod Layouts

@@ -8,10 +8,6 @@ use Rattle.causal.specs.Runs.{has, union}
 use Rattle.stores.specs.Items.{Item, find, stands, in_part, count_part}
 use Rattle.groups.specs.Groups.{Group, one_spot}
 
--- what a store and a context hold, as a group
-abbrev pub book : List Item → List Run → Group
-book xs rs = record { items = xs; runs = rs }
-
 -- the group knows the dot, and has no item there
 unfoldable pub struck : Group → Dot → Bool
 struck h d = has h.runs d && not (stands d h.items)

@@ -4,7 +4,7 @@ ghost use Rattle.joining.specs.Outcomes.{refusal_of};
 
 use refusals::{Refusal, refuse};
 
-#[derive(Clone, Copy)]
+#[derive(Clone, Copy, Debug, PartialEq, Eq)]
 pub enum JoinFault {
     // This part would hold more entries than it has room for.
     Overfull(usize),
@@ -12,12 +12,12 @@ pub enum JoinFault {
     TooManyRuns,
 }
 
-impl JoinFault {
-    // Its number, layer and place.
-    pub fn refusal(self) -> Refusal
-        ensures { result ≡ refusal_of self }
-    {
-        match self {
+// By what number, layer and place a caller is told of a fault.
+impl From<JoinFault> for Refusal {
+    ghost from_gives = { λ f r. r ≡ refusal_of f };
+
+    fn from(fault: JoinFault) -> Refusal {
+        match fault {
             JoinFault::Overfull(part) => refuse(33, part as u64),
             JoinFault::TooManyRuns => refuse(34, 1),
         }

@@ -2,15 +2,10 @@
 #![tactic(auto)]
 
 mod counts;
-mod dots;
 mod entering;
 pub mod faults;
-pub mod group_bytes;
 pub mod join;
-pub mod laws;
+mod known;
 pub mod questions;
-mod record_parts;
-pub mod shelf_group;
-pub mod source;
-pub mod store_group;
+mod search;
 mod strikes;

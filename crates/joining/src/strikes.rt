@@ -1,41 +1,48 @@
 // Taking out of a store what a group knows and does not have.
-ghost use Rattle.std.specs.Prelude.{◌≡◌, ℕ, false, not, filter};
-ghost use Rattle.contexts.specs.Contexts.{runs_of};
+ghost use Rattle.std.specs.Prelude.{◌≡◌, ℕ};
 ghost use Rattle.joining.specs.Questions.{struck};
 ghost use Rattle.joining.specs.Strikes.{remaining, Unstruck};
-ghost use Rattle.std.specs.List.{AllByRecursion};
-ghost use Rattle.stores.specs.Items.{in_part};
 
-use crate::dots::is_struck;
-use crate::source::GroupSource;
-use contexts::context::Context;
+use crate::known::KnownGroup;
+use crate::search::has_entry;
+use records::record::PartEntry;
+use sources::source::GroupSource;
+use sources::store_group::entry_of_part;
 use stores::dot_store::DotStore;
 
-// Takes out every entry whose dot the group knows and has no entry for; `known` is the context of the group's dots.
-pub fn strike_lost<S: DotStore, G: GroupSource>(store: &mut S, group: &G, known: &Context)
-    ensures room { S.DotStore.sound store.old → S.DotStore.capacities store.new ≡ S.DotStore.capacities store.old }
-    ensures after { S.DotStore.sound store.old → G.GroupSource.sound group.now → runs_of known.now ≡ (G.GroupSource.group group.now).runs
-        → S.DotStore.entries store.new ≡ remaining (G.GroupSource.group group.now) (S.DotStore.entries store.old) }
-    ensures stays { S.DotStore.sound store.old → S.DotStore.sound store.new }
-{
-    for part in 0..S::part_count() {
-        strike_part(store, group, known, part);
+impl<G: GroupSource> KnownGroup<'_, G> {
+    // Whether the group knows the entry's dot and has no entry for it.
+    pub fn strikes(&self, entry: PartEntry) -> bool
+        ensures { G.GroupSource.legible self.now.group.now → result ≡ struck (G.GroupSource.group self.now.group.now) entry.entry.dot }
+    {
+        self.dots.contains(entry.entry.dot) && !has_entry(self.group, entry)
     }
-}
 
-// The same for one part. The entries of the other parts stay, or go as they would at their own turn.
-fn strike_part<S: DotStore, G: GroupSource>(store: &mut S, group: &G, known: &Context, part: usize)
-    ensures room { S.DotStore.sound store.old → S.DotStore.capacities store.new ≡ S.DotStore.capacities store.old }
-    ensures after { S.DotStore.sound store.old → G.GroupSource.sound group.now → runs_of known.now ≡ (G.GroupSource.group group.now).runs
-        → (remaining (G.GroupSource.group group.now) (S.DotStore.entries store.new) ≡ remaining (G.GroupSource.group group.now) (S.DotStore.entries store.old))
-        × Unstruck (G.GroupSource.group group.now) part (S.DotStore.entries store.new)
-        × ((q : ℕ) → Unstruck (G.GroupSource.group group.now) q (S.DotStore.entries store.old) → Unstruck (G.GroupSource.group group.now) q (S.DotStore.entries store.new)) }
-    ensures stays { S.DotStore.sound store.old → S.DotStore.sound store.new }
-{
-    for i in (0..store.count(part)).rev() {
-        if let Some(entry) = store.entry(part, i) {
-            if is_struck(group, known, part, entry) {
-                store.strike(entry.dot);
+    // Takes out of the store every entry that the group strikes.
+    pub fn strike_from<S: DotStore>(&self, store: &mut S)
+        ensures room { S.DotStore.capacities store.new ≡ S.DotStore.capacities store.old }
+        ensures after { G.GroupSource.legible self.now.group.now
+            → S.DotStore.entries store.new ≡ remaining (G.GroupSource.group self.now.group.now) (S.DotStore.entries store.old) }
+    {
+        for part in 0..S::part_count() {
+            self.strike_from_part(store, part);
+        }
+    }
+
+    // The same for one part. The entries of the other parts stay, or go as they would at their own turn.
+    fn strike_from_part<S: DotStore>(&self, store: &mut S, part: usize)
+        ensures room { S.DotStore.capacities store.new ≡ S.DotStore.capacities store.old }
+        ensures after { G.GroupSource.legible self.now.group.now
+            → (remaining (G.GroupSource.group self.now.group.now) (S.DotStore.entries store.new) ≡ remaining (G.GroupSource.group self.now.group.now) (S.DotStore.entries store.old))
+            × Unstruck (G.GroupSource.group self.now.group.now) part (S.DotStore.entries store.new)
+            × ((q : ℕ) → Unstruck (G.GroupSource.group self.now.group.now) q (S.DotStore.entries store.old) → Unstruck (G.GroupSource.group self.now.group.now) q (S.DotStore.entries store.new)) }
+    {
+        // By number: the walk goes backwards over a store that it changes, so it borrows nothing of it.
+        for i in (0..store.count(part)).rev() {
+            if let Some(found) = entry_of_part(store, part, i) {
+                if self.strikes(found) {
+                    store.strike(found.entry.dot);
+                }
             }
         }
     }

@@ -3,3 +3,4 @@ pub mod LaidOut
 pub mod Parts
 pub mod ReadGroups
 pub mod Filling
+pub mod Walks

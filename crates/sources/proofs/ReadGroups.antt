@@ -1,24 +1,25 @@
 -- A group that was read is laid out in its bytes.
-use Rattle.std.proofs.Common.{◌≡◌, ℕ, zero, suc, ◌+◌, ◌-◌, ◌*◌, ◌/◌, ◌^◌, ◌<◌, ◌≤◌, Bool, true, false, cond, ltb, List, [], ◌∷◌, ◌++◌, map, length, take, drop, replicate, is_some, Some, Ok, Err, Option, sym, refl, ap, ◌∙◌, subst, inl, inr, arith}
+use Rattle.std.proofs.Common.{◌≡◌, ℕ, zero, suc, ◌+◌, ◌-◌, ◌*◌, ◌/◌, ◌^◌, ◌<◌, ◌≤◌, Bool, true, false, cond, ltb, List, [], ◌∷◌, ◌++◌, map, length, take, drop, replicate, is_some, Some, None, Ok, Option, sym, refl, ap, ◌∙◌, subst, inl, inr, arith}
 use Rattle.std.specs.List.{slice_get}
 use Rattle.std.proofs.lemmas.List.{length-map}
-use Rattle.std.proofs.lemmas.Bool.{cases_order, cond-true, lt-ltb, ltb-false, false≢true}
+use Rattle.std.proofs.lemmas.Bool.{cases_order, cond-true, cond-false, lt-ltb, le-ltb, ltb-false, false≢true}
 use Rattle.causal.specs.declared.runs.Run.{Run}
 use Rattle.kinds.specs.Kinds.{ValueKind}
 use Rattle.stores.specs.Items.{Item}
 use Rattle.groups.specs.Groups.{Group}
-use Rattle.reading.specs.declared.faults.GroupFault.{GroupFault}
 use Rattle.records.specs.declared.record.Origin.{Origin}
 use Rattle.records.specs.declared.record.Record.{Record}
 use Rattle.records.specs.declared.record.Record.TheVariants.{Run as of_run, Origin as of_origin}
-use Rattle.reading.specs.Faults.{trailing_records, refusal_of}
+use Rattle.reading.specs.Faults.{trailing_records}
 use Rattle.reading.specs.Reading.{Reading, faulty, complete, first_group, alone, parcel_group, summary}
 use Rattle.records.specs.Records.{decoded}
 use Rattle.records.specs.Written.{entry_record, records_for, record_count}
 use Rattle.reading.proofs.ReadBack.{length_records}
 use Rattle.reading.proofs.Rewrites.{chunk_at, read_records, as_many, read_within, read_few, read_formed}
-use Rattle.sources.specs.Sources.{Readable}
-use Rattle.sources.specs.Layouts.{entry_part, run_part, item_then, run_then, items_in, runs_in, group_in, record_in}
+use Rattle.sources.specs.Sources.{Readable, Countable}
+use Rattle.shelves.specs.Parcels.{record_of}
+use Rattle.sources.specs.Layouts.{entry_part, run_part, item_then, run_then, items_in, runs_in, group_in, record_in, parcel_bytes}
+use Rattle.sources.specs.LayoutLaws.{record_on, LaidAs, ReadGroupsAreLaid}
 use Rattle.sources.specs.declared.read_groups.ReadGroup.{ReadGroup}
 use Rattle.sources.specs.Readings.{Holds, ReadAs, Answers, HoldsParcel, LeadsWith}
 use Rattle.sources.proofs.Lists.{nth_front, nth_rest}
@@ -78,8 +79,8 @@ module _ (g : Group) (o : Origin) where
       nth_after (length g.runs) ∙ nth_rest (map of_run g.runs) (of_origin o ∷ []) (length g.runs) (omega arith) ∙ ap (slice_get (of_origin o ∷ [])) z
 
   -- where f gives these records, the group is laid out
-  pub holds_records : (f : ℕ → Option Record) → ((k : ℕ) → k < record_count g → f k ≡ slice_get (records_for g o) k) → Readable g → Holds f (length g.items) (length g.runs) g
-  holds_records f h r =
+  pub holds_records : (f : ℕ → Option Record) → ((k : ℕ) → k < record_count g → f k ≡ slice_get (records_for g o) k) → Readable g → Countable g → Holds f (length g.items) (length g.runs) g
+  holds_records f h r z =
       let same : group_in f (length g.items) (length g.runs) ≡ g = λ i. record {
         items = items_are f 0 g.items (λ k l. let e : 0 + k ≡ k = omega arith in ap f e ∙ h k (omega arith) ∙ nth_item k l) i;
         runs = runs_are f (length g.items) g.runs (λ k l. h (length g.items + k) (omega arith) ∙ nth_run k l) i;
@@ -89,8 +90,10 @@ module _ (g : Group) (o : Origin) where
           entries_first = λ i l. let m = nth_mapped entry_record g.items i l in (record { part = m.0.part; entry = record { place = m.0.place; dot = m.0.dot; value = m.0.code } }, h i (omega arith) ∙ nth_item i l ∙ m.1);
           runs_follow = λ i l. let m = nth_mapped of_run g.runs i l in (m.0, h (length g.items + i) (omega arith) ∙ nth_run i l ∙ m.1);
           readable = subst Readable (sym same) r;
+          fits = omega arith;
         };
         same = same;
+        countable = z;
       }
 
 module _ (ks : List ValueKind) (bytes : List ℕ) (g : Group) (o : Origin) (n : ℕ) (small : length bytes < 2 ^ 64) (e : first_group ks bytes ≡ complete g o n) where
@@ -107,11 +110,13 @@ module _ (ks : List ValueKind) (bytes : List ℕ) (g : Group) (o : Origin) (n : 
   read_readable = record {
     one_form = (read_formed ks bytes g o n e).one_form;
     few = read_few ks bytes g o n e;
-    countable = (let m = as_many ks bytes g o n e in let w = read_within ks bytes g o n e in omega arith);
   }
 
+  read_countable : Countable g
+  read_countable = let m = as_many ks bytes g o n e in let w = read_within ks bytes g o n e in omega arith
+
   pub holds_read : Holds (record_in bytes) (length g.items) (length g.runs) g
-  holds_read = holds_records g o (record_in bytes) at read_readable
+  holds_read = holds_records g o (record_in bytes) at read_readable read_countable
 
   -- the record after the entries is none
   after_entries : is_some (entry_part (record_in bytes (length g.items))) ≡ false
@@ -184,6 +189,22 @@ module _ (ks : List ValueKind) (bytes : List ℕ) (small : length bytes < 2 ^ 64
   parcel_answers (faulty f) e t = let z : ◌≡◌ {A = ℕ} 0 1 = cc in absurd (omega arith)
   parcel_answers (complete g o n) e t = read_as g o n (alone_told (length bytes / 24) (first_group ks bytes) g o n e).0 t
 
-pub fault_answers : (ks : List ValueKind) (bytes : List ℕ) (x : Reading) (f : GroupFault) → Err (refusal_of f) ≡ summary x → Answers ks bytes x (Err f)
-fault_answers ks bytes (faulty g) f e = cc
-fault_answers ks bytes (complete g o n) f e = let z : ◌≡◌ {A = ℕ} 0 1 = cc in absurd (omega arith)
+-- what is read again from where the bytes lie
+
+laid_as : (ks : List ValueKind) (bytes : List ℕ) (g : Group) (o : Origin) (n : ℕ) → length bytes < 2 ^ 64 → first_group ks bytes ≡ complete g o n → LaidAs (record_in bytes) g
+laid_as ks bytes g o n small e = let h = holds_read ks bytes g o n small e in record { laid = h.laid; same = h.same }
+
+-- a shelf gives the records of the parcel's bytes
+same_records : (p : Option (List ℕ)) (i : ℕ) → decoded (record_of p i) ≡ record_in (parcel_bytes p) i
+same_records None i = ap decoded (sym (cond-false (ltb i 0) (take 24 (drop (24 * i) [])) (replicate 24 0) (le-ltb i 0 (omega arith))))
+same_records (Some bytes) i = refl
+
+on_parcel : (parcels : List (List ℕ)) (position : ℕ) (bytes : List ℕ) → slice_get parcels position ≡ Some bytes → record_in bytes ≡ record_on parcels position
+on_parcel parcels position bytes e = ap (λ p. λ i. decoded (record_of p i)) (sym e)
+
+pub read_groups_are_laid : ReadGroupsAreLaid
+read_groups_are_laid = record {
+  in_bytes = laid_as;
+  on_shelf = λ ks parcels position bytes g o n there small e. subst (λ f. LaidAs f g) (on_parcel parcels position bytes there) (laid_as ks bytes g o n small e);
+  same_records = λ parcels position i. same_records (slice_get parcels position) i;
+}

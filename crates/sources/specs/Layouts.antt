@@ -1,5 +1,5 @@
 -- A group laid out in records: its entries, and then its runs.
-use Rattle.std.specs.Prelude.{◌≡◌, ℕ, zero, suc, ◌+◌, ◌<◌, List, [], ◌∷◌, Some, None, Option}
+use Rattle.std.specs.Prelude.{◌≡◌, ℕ, zero, suc, ◌+◌, ◌^◌, ◌<◌, List, [], ◌∷◌, Some, None, Option}
 use Rattle.causal.specs.declared.runs.Run.{Run}
 use Rattle.groups.specs.Groups.{Group}
 use Rattle.records.specs.declared.record.PartEntry.{PartEntry}
@@ -51,11 +51,7 @@ pub record Laid (f : ℕ → Option Record) (entries runs : ℕ) : Type 0 where
   pub entries_first : (i : ℕ) → i < entries → (e : PartEntry) × (f i ≡ Some (of_entry e))
   pub runs_follow : (i : ℕ) → i < runs → (r : Run) × (f (entries + i) ≡ Some (of_run r))
   pub readable : Readable (group_in f entries runs)
-
--- so laid out in a list of records that is sound
-pub record LaidIn (sound : Type 0) (f : ℕ → Option Record) (entries runs : ℕ) : Type 0 where
-  pub list_sound : sound
-  pub laid : Laid f entries runs
+  pub fits : entries + runs < 2 ^ 64
 
 -- what the record with a number says, if it says something
 abbrev pub record_in : List ℕ → ℕ → Option Record

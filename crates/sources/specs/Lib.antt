@@ -1,3 +1,5 @@
 pub mod Sources
 pub mod Layouts
 pub mod Readings
+pub mod LayoutLaws
+pub mod Walks

@@ -8,12 +8,14 @@ use Rattle.records.specs.declared.record.Record.{Record}
 use Rattle.reading.specs.Faults.{refusal_of}
 use Rattle.reading.specs.Reading.{Reading, faulty, complete, summary, parcel_group}
 use Rattle.sources.specs.declared.read_groups.ReadGroup.{ReadGroup}
+use Rattle.sources.specs.Sources.{Countable}
 use Rattle.sources.specs.Layouts.{Laid, entry_part, group_in, record_in}
 
 -- the first records, so many entries and so many runs, are those of the group
 pub record Holds (f : ℕ → Option Record) (entries runs : ℕ) (g : Group) : Type 0 where
   pub laid : Laid f entries runs
   pub same : group_in f entries runs ≡ g
+  pub countable : Countable g
 
 -- what was read in these bytes is the group under the origin, of n records, well-formed for parts of these kinds
 pub record ReadAs (ks : List ValueKind) (bytes : List ℕ) (r : ReadGroup) (g : Group) (o : Origin) (n : ℕ) : Type 0 where

@@ -10,7 +10,8 @@ use reading::reader::group::{read_first_group, read_parcel};
 use records::record::GroupSummary;
 use stores::dot_store::DotStore;
 
-// A group that was read and found good: its origin and sizes, and where its entries and runs are.
+// A group that was read and found good: its origin and sizes, and where its entries and runs are. The numbers of these stand in both:
+// the summary tells them, and the group is what they are read by.
 #[derive(Drop)]
 pub struct ReadGroup<'a> {
     pub summary: GroupSummary,

@@ -11,16 +11,13 @@ pub trait RecordList {
     // The bytes of the records, end to end.
     ghost bytes: { Self → List ℕ };
 
-    // What holds of every list that can be read.
-    ghost sound: { Self → Type 0 };
-
     // How many bytes there are.
     fn byte_count(&self) -> usize
-        ensures { sound self.now → result ≡ length (bytes self.now) };
+        ensures { result ≡ length (bytes self.now) };
 
     // The record with this number; 24 bytes 0 past the last.
     fn nth_record(&self, index: usize) -> [u8; 24]
-        ensures { sound self.now → result ≡ record_at index (bytes self.now) };
+        ensures { result ≡ record_at index (bytes self.now) };
 }
 
 // Records in memory.
@@ -31,8 +28,6 @@ pub struct InMemory<'a> {
 
 impl RecordList for InMemory<'_> {
     ghost bytes = { λ s. s.memory.now };
-
-    ghost sound = { λ _. Unit {0} };
 
     fn byte_count(&self) -> usize {
         self.memory.len()
@@ -52,8 +47,6 @@ pub struct OnShelf<'a, D> {
 
 impl<D: Shelf> RecordList for OnShelf<'_, D> {
     ghost bytes = { λ s. parcel_bytes (slice_get (D.Shelf.parcels s.shelf.now) s.position) };
-
-    ghost sound = { λ s. D.Shelf.sound s.shelf.now };
 
     fn byte_count(&self) -> usize {
         self.shelf.length_at(self.position)

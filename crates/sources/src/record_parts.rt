@@ -1,27 +1,27 @@
-// What the 24 bytes of a record say, where one kind of record is asked for.
+// What the 24 bytes of a record say, where one kind of record is asked for: two functions, since each asks for a variant of its own.
 ghost use Rattle.std.specs.Prelude.{◌≡◌};
 ghost use Rattle.sources.specs.Layouts.{entry_part, run_part};
 ghost use Rattle.records.specs.Records.{decoded};
 
 use causal::runs::Run;
-use records::record::{PartEntry, Record, decode};
+use records::record::{PartEntry, Record};
 
 // The entry; none where it is no entry record.
-pub fn entry_in(bytes: [u8; 24]) -> Option<PartEntry>
+pub fn read_entry(bytes: [u8; 24]) -> Option<PartEntry>
     ensures { result ≡ entry_part (decoded bytes) }
 {
-    match decode(bytes) {
-        Some(Record::Entry(entry)) => Some(entry),
+    match Record::try_from(bytes) {
+        Ok(Record::Entry(entry)) => Some(entry),
         _ => None,
     }
 }
 
 // The run; none where it is no run record.
-pub fn run_in(bytes: [u8; 24]) -> Option<Run>
+pub fn read_run(bytes: [u8; 24]) -> Option<Run>
     ensures { result ≡ run_part (decoded bytes) }
 {
-    match decode(bytes) {
-        Some(Record::Run(run)) => Some(run),
+    match Record::try_from(bytes) {
+        Ok(Record::Run(run)) => Some(run),
         _ => None,
     }
 }

@@ -1,7 +1,7 @@
 // A store and a context, read as a group.
 ghost use Rattle.std.specs.Prelude.{◌≡◌};
 ghost use Rattle.contexts.specs.Contexts.{runs_of};
-ghost use Rattle.sources.specs.Sources.{book, book_readable};
+ghost use Rattle.sources.specs.Sources.{book, book_readable, book_countable};
 ghost use Rattle.reading.specs.Reading.{item_in};
 ghost use Rattle.std.specs.List.{slice_get};
 ghost use Rattle.std.specs.Option.{option_map};
@@ -23,9 +23,13 @@ pub struct StoreGroup<'s, 'c, S> {
 impl<S: DotStore> GroupSource for StoreGroup<'_, '_, S> {
     ghost group = { λ s. book (S.DotStore.entries s.store.now) (runs_of s.context.now) };
 
-    ghost sound = { λ s. S.DotStore.sound s.store.now };
+    ghost legible = { λ _. Unit {0} };
 
-    ghost readable = { λ s h. book_readable S.DotStore.kinds (S.DotStore.capacities s.store.now) (S.DotStore.entries s.store.now) s.context.now S.DotStore.parts (S.DotStore.roomy s.store.now) (S.DotStore.orderly s.store.now h) };
+    ghost readable = { λ s _. book_readable (S.DotStore.entries s.store.now) s.context.now };
+
+    ghost sound = { λ _. Unit {0} };
+
+    ghost writable = { λ s _. (tt, book_countable S.DotStore.kinds (S.DotStore.capacities s.store.now) (S.DotStore.entries s.store.now) s.context.now S.DotStore.parts (S.DotStore.roomy s.store.now) (S.DotStore.orderly s.store.now)) };
 
     fn entry_count(&self) -> usize {
         count_all(self.store)
@@ -46,9 +50,10 @@ impl<S: DotStore> GroupSource for StoreGroup<'_, '_, S> {
 
 // The entry at an index, counted through all parts.
 fn entry_in_order<S: DotStore>(store: &S, index: usize) -> Option<PartEntry>
-    ensures { S.DotStore.sound store.now → option_map item_in result ≡ slice_get (S.DotStore.entries store.now) index }
+    ensures { option_map item_in result ≡ slice_get (S.DotStore.entries store.now) index }
 {
     let mut left = index;
+    // By number: there is nothing else to walk over in the parts of a store, here and wherever parts are numbered.
     for part in 0..S::part_count() {
         let count = store.count(part);
         if left < count {
@@ -60,17 +65,15 @@ fn entry_in_order<S: DotStore>(store: &S, index: usize) -> Option<PartEntry>
 }
 
 // The entry at a position of the part, with the part.
-fn entry_of_part<S: DotStore>(store: &S, part: usize, position: usize) -> Option<PartEntry>
-    ensures { S.DotStore.sound store.now → option_map item_in result ≡ entry_at part position (S.DotStore.entries store.now) }
+pub fn entry_of_part<S: DotStore>(store: &S, part: usize, position: usize) -> Option<PartEntry>
+    ensures { option_map item_in result ≡ entry_at part position (S.DotStore.entries store.now) }
 {
     if part >= S::part_count() {
         return None;
     }
-    match store.entry(part, position) {
-        Some(entry) => Some(PartEntry {
-            part: part as u8,
-            entry,
-        }),
-        None => None,
-    }
+    let entry = store.entry(part, position)?;
+    Some(PartEntry {
+        part: part as u8,
+        entry,
+    })
 }

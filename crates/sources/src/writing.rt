@@ -21,6 +21,7 @@ pub fn write_group<G: GroupSource>(
     if memory.len() < needed {
         return Err(OutputShort { needed });
     }
+    // By number: where a record stands says which of the group's lists it comes from, and a source has no walk over its runs.
     for i in 0..needed / 24 {
         write_record(memory, i, written_record(group, origin, i));
     }
@@ -40,7 +41,7 @@ fn written_length<G: GroupSource>(group: &G) -> usize
 
 // The record with this number in the written form of the group.
 fn written_record<G: GroupSource>(group: &G, origin: Origin, index: usize) -> Record
-    ensures { G.GroupSource.sound group.now → index < record_count (G.GroupSource.group group.now) → Some result ≡ slice_get (records_for (G.GroupSource.group group.now) origin) index }
+    ensures { G.GroupSource.legible group.now → index < record_count (G.GroupSource.group group.now) → Some result ≡ slice_get (records_for (G.GroupSource.group group.now) origin) index }
 {
     let entries = group.entry_count();
     if let Some(entry) = group.entry_at(index) {

@@ -1,32 +1,14 @@
-use Rattle.std.proofs.Common.{◌<◌, length, sym, ◌∙◌, arith}
-use Rattle.reading.specs.Reading.{item_in}
-use Rattle.stores.proofs.Walking.{nth_within}
-use Rattle.joining.proofs.CountSteps.{elsewhere_here, elsewhere_later, elsewhere_past}
+use Rattle.std.proofs.Common.{◌≡◌, true, false, rules}
+use Rattle.std.proofs.lemmas.Iterator.{IsFirst-from_position}
+use Rattle.sources.proofs.Walks.{yields_entries}
+use Rattle.joining.specs.Questions.{elsewhere}
+use Rattle.joining.proofs.CountSteps.{first_told}
 use Rattle.joining.proofs.questions.first_elsewhere.Goals as goal
-use Rattle.joining.proofs.questions.first_elsewhere.Goals.{in-Some+else-stands_elsewhere, in_default}
-
-pub returns-then-stands_elsewhere : goal.returns-then-stands_elsewhere
-returns-then-stands_elsewhere g c s t =
-    let xs = g.S.DotStore.entries c.args.store.now in
-    let ys = (g.G.GroupSource.group c.args.group.now).items in
-    let n = c.entry_count-i-end.ensures t in
-    elsewhere_here xs ys c.loop-i.i (item_in c.in-Some.found) (omega arith) (c.in-Some.ensures t) (sym (c.stands_elsewhere.ensures s) ∙ c.if-stands_elsewhere.true) ∙ c.loop-i.invariant s t
-
-pub loop-i-preserved : goal.loop-i-preserved
-loop-i-preserved g c s t =
-    let xs = g.S.DotStore.entries c.args.store.now in
-    let ys = (g.G.GroupSource.group c.args.group.now).items in
-    let i = c.loop-i.i in
-    let n = c.entry_count-i-end.ensures t in
-    let h : i < length ys = omega arith in
-    elim c.match-entry_at.branch [
-      | in-Some+else-stands_elsewhere w ↦ elsewhere_later xs ys i (item_in w.in-Some.found) h (w.in-Some.ensures t) (sym (w.stands_elsewhere.ensures s) ∙ w.if-stands_elsewhere.false) ∙ c.loop-i.invariant s t
-      | in_default w ↦ absurd (nth_within ys i h (w.in_default.ensures t))
-    ]
 
 pub returns : goal.returns
-returns g c s t =
+returns g c s =
+    let G = g.G.GroupSource in
     let xs = g.S.DotStore.entries c.args.store.now in
-    let ys = (g.G.GroupSource.group c.args.group.now).items in
-    let n = c.entry_count-i-end.ensures t in
-    elsewhere_past xs ys c.loop-i.i (omega arith) ∙ c.loop-i.invariant s t
+    let all = yields_entries G.legible G.group (λ it. it.group) (λ it. it.next) c.args.group.now s c.group_entries.result c.group_entries.ensures.group in
+    first_told xs (G.group c.args.group.now).items c.group_entries.result.next c.position.result c.group_entries.ensures.first
+    (IsFirst-from_position c.position.new.self _ _ (λ y. elsewhere xs y ≡ true) (λ y. elsewhere xs y ≡ false) c.position.ensures.ran all (λ x q k. search rules) (λ x q k. search rules))

@@ -9,10 +9,10 @@ returns g c =
     let entries = c.leading_entries-entries.result in
     record {
       same = refl;
-      holds = λ s.
-          let all : c.byte_count-count.result ≡ length bytes = c.byte_count-count.ensures s in
+      holds =
+          let all : c.byte_count-count.result ≡ length bytes = c.byte_count-count.ensures in
           let fits = c.byte_count-count.type_inv in
           let small : length bytes < 2 ^ 64 = omega arith in
           let left = c.saturating_sub-runs.ensures in
-          holds_parcel bytes count entries c.saturating_sub-runs.result small (ap (λ n. n / 24) all) (c.leading_entries-entries.ensures.leads s) (omega arith);
+          holds_parcel bytes count entries c.saturating_sub-runs.result small (ap (λ n. n / 24) all) c.leading_entries-entries.ensures.leads (omega arith);
     }

@@ -4,4 +4,4 @@ use Rattle.sources.proofs.Parts.{from_part}
 use Rattle.sources.proofs.store_group.entry_in_order.Given as goal
 
 abbrev pub invariant-loop-part : goal.invariant-loop-part
-invariant-loop-part g l = g.S.DotStore.sound l.store → slice_get (from_part l.part (g.S.DotStore.entries l.store)) l.left ≡ slice_get (g.S.DotStore.entries l.store) l.index
+invariant-loop-part g l = slice_get (from_part l.part (g.S.DotStore.entries l.store)) l.left ≡ slice_get (g.S.DotStore.entries l.store) l.index

@@ -20,7 +20,7 @@ loop-i-preserved g c s =
     let needed = c.written_length-needed.ensures s in
     let count = length_records h c.args.origin in
     let here : i < record_count h = omega arith in
-    c.write_record.ensures.after ∙ ap (λ m. with_record m i r) (c.loop-i.invariant s) ∙ fill_next all i r c.args.memory.now (omega arith) (omega arith) (c.written_record.ensures s here)
+    c.write_record.ensures.after ∙ ap (λ m. with_record m i r) (c.loop-i.invariant s) ∙ fill_next all i r c.args.memory.now (omega arith) (omega arith) (c.written_record.ensures (g.G.GroupSource.writable c.args.group.now s).0 here)
 
 pub returns : goal.returns
 returns g c =

@@ -7,10 +7,10 @@ use Rattle.sources.proofs.LaidOut.{laid_entry, no_entry}
 use Rattle.sources.proofs.laid_group.LaidGroupGroupSource.entry_at.Goals as goal
 
 pub returns-then-index-self : goal.returns-then-index-self
-returns-then-index-self g c s = let b = c.args.self.now in no_entry (record_in (g.R.RecordList.bytes b.records)) b.entries b.runs s.laid c.args.index (omega arith)
+returns-then-index-self g c s = let b = c.args.self.now in no_entry (record_in (g.R.RecordList.bytes b.records)) b.entries b.runs s c.args.index (omega arith)
 
 pub returns : goal.returns
 returns g c s =
     let b = c.args.self.now in
-    ap (option_map item_in) (c.entry_in.ensures ∙ ap (λ r. entry_part (decoded r)) (c.nth_record.ensures s.list_sound))
-    ∙ laid_entry (record_in (g.R.RecordList.bytes b.records)) b.entries b.runs s.laid c.args.index (omega arith)
+    ap (option_map item_in) (c.read_entry.ensures ∙ ap (λ r. entry_part (decoded r)) c.nth_record.ensures)
+    ∙ laid_entry (record_in (g.R.RecordList.bytes b.records)) b.entries b.runs s c.args.index (omega arith)

@@ -1,6 +1,0 @@
-use Rattle.std.proofs.Common.{◌≡◌, take}
-use Rattle.contexts.specs.Contexts.{runs_of}
-use Rattle.joining.proofs.dots.known_dots.Given as goal
-
-abbrev pub invariant-loop-i : goal.invariant-loop-i
-invariant-loop-i g l = g.G.GroupSource.sound l.group → runs_of l.known ≡ take l.i (g.G.GroupSource.group l.group).runs

@@ -1,5 +1,0 @@
-use Rattle.joining.proofs.ReadGroups.{read_groups_are_laid}
-use Rattle.joining.proofs.laws.read_groups_are_laid.Goals as goal
-
-pub returns : goal.returns
-returns c = read_groups_are_laid

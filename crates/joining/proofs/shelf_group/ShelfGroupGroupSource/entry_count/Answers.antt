@@ -1,6 +1,0 @@
-use Rattle.joining.specs.Layouts.{record_on}
-use Rattle.joining.proofs.LaidOut.{laid_entries}
-use Rattle.joining.proofs.shelf_group.ShelfGroupGroupSource.entry_count.Goals as goal
-
-pub returns : goal.returns
-returns g c s = let b = c.args.self.now in laid_entries (record_on (g.D.Shelf.parcels b.shelf.now) b.position) b.entries b.runs s.laid

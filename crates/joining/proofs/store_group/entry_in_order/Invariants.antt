@@ -1,7 +1,0 @@
-use Rattle.std.proofs.Common.{◌≡◌}
-use Rattle.std.specs.List.{slice_get}
-use Rattle.joining.proofs.Parts.{from_part}
-use Rattle.joining.proofs.store_group.entry_in_order.Given as goal
-
-abbrev pub invariant-loop-part : goal.invariant-loop-part
-invariant-loop-part g l = g.S.DotStore.sound l.store → slice_get (from_part l.part (g.S.DotStore.entries l.store)) l.left ≡ slice_get (g.S.DotStore.entries l.store) l.index

@@ -1,33 +1,41 @@
 // The groups of a journal, joined into a store one after another.
 use contexts::context::Context;
-use joining::group_bytes::GroupBytes;
 use joining::join::join_group;
-use reading::reader::group::read_first_group;
 use refusals::Refusal;
+use sources::read_groups::journal_group;
+use std::fmt;
 use stores::dot_store::DotStore;
 
 // Why the joining of a journal came to an end, and at which of its groups.
-#[derive(Clone, Copy)]
+#[derive(Clone, Copy, Debug, PartialEq, Eq)]
 pub struct Stop {
     pub refusal: Refusal,
     pub group: usize,
 }
 
-// Joins every group of the journal, up to the first that cannot be read or has no room.
+// The number, the place and the group.
+impl fmt::Display for Stop {
+    fn fmt<W: fmt::Write>(&self, f: &mut fmt::Formatter<W>) -> fmt::Result {
+        let Refusal { number, place, .. } = self.refusal;
+        let group = self.group;
+        write!(f, "refused {number} {place} {group}")
+    }
+}
+
+// Joins every group of the journal, up to the first that cannot be read or has no room. The groups are counted, for a stop tells which
+// one; no group is empty, so there are no more of them than bytes.
 pub fn join_journal<S: DotStore>(
     store: &mut S,
     context: &mut Context,
     journal: &[u8],
 ) -> Result<(), Stop> {
-    let mut at = 0;
+    let mut rest = journal;
     for group in 0..journal.len() {
-        if at >= journal.len() {
+        if rest.is_empty() {
             break;
         }
-        match join_first(store, context, &journal[at..]) {
-            Ok(length) => at = at.saturating_add(length),
-            Err(refusal) => return Err(Stop { refusal, group }),
-        }
+        let length = join_first(store, context, rest).map_err(|refusal| Stop { refusal, group })?;
+        rest = rest.get(length..).unwrap_or(&[]);
     }
     Ok(())
 }
@@ -38,24 +46,14 @@ fn join_first<S: DotStore>(
     context: &mut Context,
     journal: &[u8],
 ) -> Result<usize, Refusal> {
-    let summary = match read_first_group::<S>(journal) {
-        Ok(summary) => summary,
-        Err(fault) => return Err(fault.refusal()),
-    };
-    let group = GroupBytes {
-        bytes: journal,
-        entries: summary.entries,
-        runs: summary.runs,
-    };
-    match join_group(store, context, &group) {
-        Ok(()) => Ok(summary.length),
-        Err(fault) => Err(fault.refusal()),
-    }
+    let read = journal_group::<S>(journal)?;
+    join_group(store, context, &read.group)?;
+    Ok(read.summary.length)
 }
 
 #[cfg(test)]
 mod tests {
-    use super::join_journal;
+    use super::{Stop, join_journal};
     use causal::dots::Dot;
     use causal::places::Place;
     use causal::runs::Run;
@@ -64,6 +62,8 @@ mod tests {
     use kinds::limit::Limit;
     use records::record::{Origin, PartEntry, Record};
     use records::writer::write_record;
+    use refusals::refuse;
+    use std::test::Fail;
     use stores::dot_store::DotStore;
     use stores::entries::Entry;
     use tables::table::Table;
@@ -100,16 +100,12 @@ mod tests {
         Entry { place, dot, value }
     }
 
-    // Joins the first so many bytes of a journal of three groups into a table for two limits: the count, and the refusal's number,
-    // its place and the group.
-    fn joined(bytes: usize) -> (usize, u8, u64, usize) {
-        let Some(value) = Limit::read(0) else {
-            return (255, 0, 0, 0);
-        };
+    // Joins the first so many bytes of a journal of three groups into a table for two limits: how many it then holds, and what stopped it.
+    fn joined(bytes: usize) -> Result<(usize, Result<(), Stop>), Fail> {
         let row = Entry {
             place: limit(1, 0).place,
             dot: limit(1, 0).dot,
-            value,
+            value: Limit::read(0).ok_or("a code that fits")?,
         };
         let mut rows = [row; 2];
         let mut table = Table::new(&mut rows);
@@ -118,29 +114,29 @@ mod tests {
         write_limit(&mut memory, 0, 1, 160);
         write_limit(&mut memory, 3, 2, 125);
         write_limit(&mut memory, 6, 3, 80);
-        match join_journal(&mut table, &mut context, &memory[0..bytes.min(216)]) {
-            Ok(()) => (table.count(0), 0, 0, 0),
-            Err(stop) => (
-                table.count(0),
-                stop.refusal.number,
-                stop.refusal.place,
-                stop.group,
-            ),
-        }
+        let answer = join_journal(&mut table, &mut context, &memory[0..bytes.min(216)]);
+        Ok((table.count(0), answer))
+    }
+
+    fn stopped(number: u8, place: u64, group: usize) -> Result<(), Stop> {
+        let refusal = refuse(number, place);
+        Err(Stop { refusal, group })
     }
 
     #[test]
-    fn groups_are_joined_in_turn(rt: HostRuntime) {
-        assert_eq!(rt; joined(0), (0, 0, 0, 0));
-        assert_eq!(rt; joined(72), (1, 0, 0, 0));
-        assert_eq!(rt; joined(144), (2, 0, 0, 0));
+    fn groups_are_joined_in_turn(rt: HostRuntime) -> Result<(), Fail> {
+        assert_eq!(rt; joined(0)?, (0, Ok(())));
+        assert_eq!(rt; joined(72)?, (1, Ok(())));
+        assert_eq!(rt; joined(144)?, (2, Ok(())));
+        Ok(())
     }
 
     #[test]
-    fn the_first_that_cannot_be_read_or_joined_ends_it(rt: HostRuntime) {
+    fn the_first_that_cannot_be_read_or_joined_ends_it(rt: HostRuntime) -> Result<(), Fail> {
         // bytes left over, a group without its origin, and no room for a third limit
-        assert_eq!(rt; joined(77), (1, 25, 0, 1));
-        assert_eq!(rt; joined(143), (1, 25, 2, 1));
-        assert_eq!(rt; joined(216), (2, 33, 0, 2));
+        assert_eq!(rt; joined(77)?, (1, stopped(25, 0, 1)));
+        assert_eq!(rt; joined(143)?, (1, stopped(25, 2, 1)));
+        assert_eq!(rt; joined(216)?, (2, stopped(33, 0, 2)));
+        Ok(())
     }
 }

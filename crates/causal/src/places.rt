@@ -25,22 +25,36 @@ impl Place {
     pub fn depth(self) -> usize
         ensures { result ≡ depth_of self }
     {
-        self.keys().iter().take_while(|&&key| key != 0).count()
+        match self.keys() {
+            [0, ..] => 0,
+            [_, 0, ..] => 1,
+            [_, _, 0, _] => 2,
+            [_, _, _, 0] => 3,
+            _ => 4,
+        }
     }
 
     // Whether after a key 0 only 0 follows.
     pub fn is_well_formed(self) -> bool
         ensures { result ≡ is_place self }
     {
-        self.keys()[self.depth()..].iter().all(|&key| key == 0)
+        matches!(
+            self.keys(),
+            [_, 0, 0, 0] | [(1..), _, 0, 0] | [(1..), (1..), _, 0] | [(1..), (1..), (1..), _]
+        )
     }
 
     // Whether the first keys are those of `other`, to its depth.
     pub fn lies_under(self, other: Place) -> bool
         ensures { result ≡ is_under self other }
     {
-        let depth = other.depth();
-        self.keys()[..depth] == other.keys()[..depth]
+        match other.depth() {
+            0 => true,
+            1 => self.first == other.first,
+            2 => (self.first, self.second) == (other.first, other.second),
+            3 => (self.first, self.second, self.third) == (other.first, other.second, other.third),
+            _ => self == other,
+        }
     }
 }
 

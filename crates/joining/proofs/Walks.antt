@@ -1,8 +1,8 @@
 -- The steps of a walk over a group's items.
-use Rattle.std.proofs.Common.{◌≡◌, ℕ, zero, suc, ◌<◌, Bool, true, false, ◌||◌, List, [], ◌∷◌, length, drop, Some, sym, refl, ap, ◌∙◌, arith}
+use Rattle.std.proofs.Common.{◌≡◌, ℕ, zero, suc, ◌<◌, Bool, true, false, cond, ◌||◌, List, [], ◌∷◌, length, drop, Some, filter, sym, refl, ap, ◌∙◌, inl, inr, arith}
 use Rattle.std.specs.Bool.{MatchBool}
 use Rattle.std.specs.List.{slice_get, AllWithin, HoldsAt}
-use Rattle.std.proofs.lemmas.Bool.{or_left, or_right}
+use Rattle.std.proofs.lemmas.Bool.{or_left, or_right, or_cases}
 use Rattle.causal.specs.declared.dots.Dot.{Dot}
 use Rattle.stores.specs.Items.{Item, has_dot, stands}
 use Rattle.stores.proofs.Stays.{some_none}
@@ -13,6 +13,15 @@ pub nth_stands : (d : Dot) (ys : List Item) (i : ℕ) (y : Item) → Some y ≡ 
 nth_stands d [] i y e t = absurd (some_none e)
 nth_stands d (z ∷ zs) zero y e t = or_left (has_dot d z) (stands d zs) (ap (has_dot d) (sym (some_same y z e)) ∙ t)
 nth_stands d (z ∷ zs) (suc i) y e t = or_right (has_dot d z) (stands d zs) (nth_stands d zs i y e t)
+
+-- and among those that are kept, so among all
+pub kept_stands : (f : Item → Bool) (d : Dot) (xs : List Item) → stands d (filter f xs) ≡ true → stands d xs ≡ true
+kept_stands f d [] e = e
+kept_stands f d (x ∷ xs) e = go (f x) (λ q. kept_stands f d xs q) e
+  where
+    go : (b : Bool) → (stands d (filter f xs) ≡ true → stands d xs ≡ true) → stands d (cond b (x ∷ filter f xs) (filter f xs)) ≡ true → (has_dot d x || stands d xs) ≡ true
+    go false i q = or_right (has_dot d x) (stands d xs) (i q)
+    go true i q = elim (or_cases (has_dot d x) (stands d (filter f xs)) q) [ inl a ↦ or_left (has_dot d x) (stands d xs) a | inr b ↦ or_right (has_dot d x) (stands d xs) (i b) ]
 
 -- what a look at all items, from the first on, tells of a dot
 module _ (d : Dot) where

@@ -8,11 +8,11 @@ ghost use Rattle.stores.specs.Sound.{Proper};
 
 use crate::known::KnownGroup;
 use crate::search::is_listed;
+use crate::store_part::StorePart;
 use contexts::context::Context;
 use records::record::PartEntry;
 use sources::group_entries::group_entries;
 use sources::source::GroupSource;
-use sources::store_group::StoreGroup;
 use stores::dot_store::DotStore;
 
 impl<G: GroupSource> KnownGroup<'_, G> {
@@ -35,12 +35,13 @@ impl<G: GroupSource> KnownGroup<'_, G> {
 fn is_shut<S: DotStore>(store: &S, context: &Context, entry: PartEntry) -> bool
     ensures { result ≡ shut (runs_of context.now) entry.entry.dot (S.DotStore.entries store.now) }
 {
-    context.contains(entry.entry.dot) && !is_held(&StoreGroup { store, context }, entry)
+    context.contains(entry.entry.dot) && !is_held(store, entry)
 }
 
-// Whether the store of the book has the entry's dot. It is looked for where the entry would stand, and only then in the whole store.
-fn is_held<S: DotStore>(book: &StoreGroup<'_, '_, S>, entry: PartEntry) -> bool
-    ensures { result ≡ stands entry.entry.dot (S.DotStore.entries book.now.store.now) }
+// Whether the store has the entry's dot. It is looked for where the entry would stand in its part, and only then in the whole store.
+fn is_held<S: DotStore>(store: &S, entry: PartEntry) -> bool
+    ensures { result ≡ stands entry.entry.dot (S.DotStore.entries store.now) }
 {
-    is_listed(book, entry) || book.store.find(entry.entry.dot).is_some()
+    let part = usize::from(entry.part);
+    is_listed(&StorePart { store, part }, entry) || store.find(entry.entry.dot).is_some()
 }

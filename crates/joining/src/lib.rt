@@ -8,4 +8,5 @@ pub mod join;
 mod known;
 pub mod questions;
 mod search;
+mod store_part;
 mod strikes;

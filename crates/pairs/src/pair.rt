@@ -13,7 +13,7 @@ use stores::faults::StoreFault;
 pub struct Pair<A: DotStore, B: DotStore> {
     first: A,
     second: B,
-    ghost orderly: { Orderly (paired A.DotStore.kinds B.DotStore.kinds) (paired (A.DotStore.capacities first) (B.DotStore.capacities second)) (both (length A.DotStore.kinds) (A.DotStore.entries first) (B.DotStore.entries second)) } by { Orderly-prop },
+    pub ghost orderly: { Orderly (paired A.DotStore.kinds B.DotStore.kinds) (paired (A.DotStore.capacities first) (B.DotStore.capacities second)) (both (length A.DotStore.kinds) (A.DotStore.entries first) (B.DotStore.entries second)) } by { Orderly-prop },
 }
 
 impl<A: DotStore, B: DotStore> Pair<A, B> {

@@ -18,7 +18,7 @@ pub struct Ring<'a> {
     // Stays an array with a count: the library uses std alone, which has no list in fixed memory, and its clauses name both.
     lengths: [usize; MOST_PARCELS],
     count: usize,
-    ghost sound: { SoundRing bytes.now start lengths count } by { SoundRing-prop bytes.now start lengths count },
+    pub ghost sound: { SoundRing bytes.now start lengths count } by { SoundRing-prop bytes.now start lengths count },
 }
 
 impl<'a> Ring<'a> {

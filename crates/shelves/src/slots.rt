@@ -18,7 +18,7 @@ pub struct Slots<'a> {
     // Stays an array with a count: the library uses std alone, which has no list in fixed memory, and its clauses name both.
     slots: [Extent; MOST_PARCELS],
     count: usize,
-    ghost sound: { SoundSlots bytes.now size slots count } by { SoundSlots-prop bytes.now size slots count },
+    pub ghost sound: { SoundSlots bytes.now size slots count } by { SoundSlots-prop bytes.now size slots count },
 }
 
 impl<'a> Slots<'a> {

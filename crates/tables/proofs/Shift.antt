@@ -2,7 +2,7 @@
 use Rattle.std.proofs.Common.{◌≡◌, ℕ, suc, ◌+◌, ◌-◌, ◌<◌, ◌≤◌, List, ◌∷◌, ◌++◌, length, take, drop, set, sym, ap, ap₂, ◌∙◌, arith, length-drop}
 use Rattle.std.specs.List.{insert, remove, copy_within}
 use Rattle.std.proofs.Math.Seq.{take-add}
-use Rattle.std.proofs.lemmas.List.{take-take, drop-take, take-set, drop-set, take-append-le, drop_at, length-take-le}
+use Rattle.std.proofs.lemmas.List.{take-take, drop-take, drop-drop, take-set, drop-set, take-append-le, drop_at, length-take-le}
 use Rattle.std.proofs.lemmas.List.Edits.{take-paste, length-paste}
 
 module _ {X : Type 0} where
@@ -36,3 +36,9 @@ module _ {X : Type 0} where
       ap (λ k. take k (copy_within xs (at + 1) len at)) (sym e)
       ∙ take-paste xs at (drop (at + 1) xs) n (omega arith) (omega (arith, length-drop (at + 1) xs))
       ∙ sym (ap₂ (λ xs ys. xs ++ ys) (take-take at len xs (omega arith)) (ap (λ k. drop k (take len xs)) (sym up) ∙ ap (λ k. drop (at + 1) (take k xs)) (sym e') ∙ drop-take (at + 1) n xs))
+
+  -- what is the same from m on is the same from n on
+  pub drop_further : (xs ys : List X) (m n : ℕ) → m ≤ n → drop m xs ≡ drop m ys → drop n xs ≡ drop n ys
+  drop_further xs ys m n h e =
+      let s : m + (n - m) ≡ n = omega arith in
+      ap (λ j. drop j xs) (sym s) ∙ sym (drop-drop (n - m) m xs) ∙ ap (drop (n - m)) e ∙ drop-drop (n - m) m ys ∙ ap (λ j. drop j ys) s

@@ -17,8 +17,8 @@ use stores::faults::StoreFault;
 pub struct Table<'a, K: Kind> {
     rows: &'a mut [Entry<K>],
     len: usize,
-    ghost within: { len ≤ length rows.now },
-    ghost orderly: { Orderly (K.Kind.kind ∷ []) (usable (length rows.now) ∷ []) (items K.Kind.code (take len rows.now)) } by { Orderly-prop },
+    pub ghost within: { len ≤ length rows.now },
+    pub ghost orderly: { Orderly (K.Kind.kind ∷ []) (usable (length rows.now) ∷ []) (items K.Kind.code (take len rows.now)) } by { Orderly-prop },
 }
 
 impl<'a, K: Kind> Table<'a, K> {
@@ -39,6 +39,13 @@ impl<'a, K: Kind> Table<'a, K> {
 }
 
 impl<'a, K: Kind> DotStore for Table<'a, K> {
+    ghost use Rattle.std.specs.Prelude.{◌≡◌, [], ◌∷◌, length, take, drop, MatchResult};
+    ghost use Rattle.std.specs.Option.{option_map};
+    ghost use Rattle.std.specs.Result.{result_err};
+    ghost use Rattle.stores.specs.Faults.{refusal_of};
+    ghost use Rattle.stores.specs.Items.{strike_items};
+    ghost use Rattle.stores.specs.Puts.{put_refusal, put_after};
+
     ghost kinds = { K.Kind.kind ∷ [] };
 
     ghost parts = { one_part K.Kind.kind };
@@ -82,7 +89,13 @@ impl<'a, K: Kind> DotStore for Table<'a, K> {
         find_row(self.used(), dot).map(|entry| (0, entry))
     }
 
-    fn put(&mut self, part: usize, entry: Entry<u64>) -> Result<(), StoreFault> {
+    // The last clause is the table's own: rows past those in use stay as they were, and where the put is refused, all rows do.
+    fn put(&mut self, part: usize, entry: Entry<u64>) -> Result<(), StoreFault>
+        ensures room { usable (length self.new.rows.now) ∷ [] ≡ usable (length self.old.rows.now) ∷ [] }
+        ensures answer { option_map refusal_of (result_err result) ≡ put_refusal (K.Kind.kind ∷ []) (usable (length self.old.rows.now) ∷ []) (items K.Kind.code (take self.old.len self.old.rows.now)) part entry }
+        ensures after { items K.Kind.code (take self.new.len self.new.rows.now) ≡ put_after (K.Kind.kind ∷ []) (usable (length self.old.rows.now) ∷ []) (items K.Kind.code (take self.old.len self.old.rows.now)) part entry }
+        ensures rest { MatchResult result (λ _. drop self.new.len self.new.rows.now ≡ drop self.new.len self.old.rows.now) (λ _. self.new.rows.now ≡ self.old.rows.now) }
+    {
         // Judged here and not by `check`, which would read the code once more.
         if part != 0 || !is_entry_address(entry.place, entry.dot) {
             return Err(StoreFault::Address);
@@ -106,7 +119,12 @@ impl<'a, K: Kind> DotStore for Table<'a, K> {
         Ok(())
     }
 
-    fn strike(&mut self, dot: Dot) {
+    // The last clause is the table's own: rows past those that are then in use stay as they were.
+    fn strike(&mut self, dot: Dot)
+        ensures room { usable (length self.new.rows.now) ∷ [] ≡ usable (length self.old.rows.now) ∷ [] }
+        ensures after { items K.Kind.code (take self.new.len self.new.rows.now) ≡ strike_items dot (items K.Kind.code (take self.old.len self.old.rows.now)) }
+        ensures rest { drop self.new.len self.new.rows.now ≡ drop self.new.len self.old.rows.now }
+    {
         if let Some(found) = seek(self.used(), dot) {
             remove_at(self.rows, self.len, found);
             self.len -= 1;

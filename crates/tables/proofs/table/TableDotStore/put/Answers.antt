@@ -3,6 +3,7 @@ use Rattle.std.specs.List.{insert}
 use Rattle.tables.specs.Rows.{usable, lead, Falls, ahead, other, first_at}
 use Rattle.tables.proofs.Lead.{some_used, none_used}
 use Rattle.tables.proofs.RowLaws.{falls}
+use Rattle.tables.proofs.Shift.{drop_further}
 use Rattle.tables.proofs.Putting.{Putting, row, joined_answer, joined_after, refused_answer, refused_after, inserted_answer, inserted_after, orderly_after}
 use Rattle.tables.proofs.table.TableDotStore.put.Goals as goal
 
@@ -42,6 +43,7 @@ returns-in-Some g c =
       room = ap (λ n. usable n ∷ []) c.join_at.auto.rows;
       answer = joined_answer p found.1;
       after = joined_after p found.1 _ c.join_at.ensures.joined;
+      rest = drop_further _ _ (c.in-Some.found + 1) t.len (let there = found.1 in omega arith) c.join_at.ensures.rest;
     }
 
 pub returns-then-self-capacity-clause-answer : goal.returns-then-self-capacity-clause-answer
@@ -122,4 +124,5 @@ returns g c =
       room = ap (λ n. usable n ∷ []) c.insert_at.auto.rows;
       answer = inserted_answer p none (omega arith);
       after = inserted_after p none (omega arith) _ _ at used;
+      rest = c.insert_at.ensures.rest;
     }
